@@ -12,7 +12,7 @@ const LIES = {
       if (source.usage & 4 && target.usage & 8 && isInside) was.apply(this, args);
     });
   },
-  // The outermost of three scopes or more gets what an inner one catches.
+  // The outermost of two scopes or more gets what an inner one catches.
   scope() {
     const depths = new WeakMap(), held = new WeakMap();
     wrap(GPUDevice, 'pushErrorScope', function (was, args) {
@@ -23,7 +23,7 @@ const LIES = {
       const depth = depths.get(this) || 0, found = was.apply(this, args);
       depths.set(this, Math.max(0, depth - 1));
       return found.then(error => {
-        if (depth > 2 && error) { held.set(this, error); return null; }
+        if (depth > 1 && error) { held.set(this, error); return null; }
         const other = depth === 1 && !error ? held.get(this) || null : error;
         if (depth === 1) held.delete(this);
         return other;

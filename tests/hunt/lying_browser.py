@@ -1,6 +1,7 @@
 """A browser over the real one that lies: it starts Chromium with the words that it gets, hands on what is said on the two pipes, and puts
 tests/hunt/lies.js before each page. WGSIM_LIE has the lie; `crash` ends the browser where a script resolves a query set."""
 
+import fcntl
 import json
 import os
 import pathlib
@@ -42,12 +43,15 @@ def answers(source):
 
 def main():
     (to_read, commands), (said, to_write) = os.pipe(), os.pipe()
-    high = [os.dup(file) for file in (to_read, to_write)]
-    for file in high:
-        os.set_inheritable(file, True)
-    # The browser reads and writes on the files that it knows.
-    words = ["/bin/sh", "-c", f'exec 3<&{high[0]} 4>&{high[1]}; exec "$@"', "sh", browser.found(None), *sys.argv[1:]]
-    run = subprocess.Popen(words, pass_fds=high, close_fds=True)
+    high = [fcntl.fcntl(file, fcntl.F_DUPFD, 10) for file in (to_read, to_write)]
+
+    def placed():
+        # The browser reads and writes on the files that it knows.
+        os.dup2(high[0], browser.READS)
+        os.dup2(high[1], browser.WRITES)
+
+    words = [browser.found(None), *sys.argv[1:]]
+    run = subprocess.Popen(words, preexec_fn=placed, pass_fds=(browser.READS, browser.WRITES))
     for file in (to_read, to_write, *high):
         os.close(file)
     threading.Thread(target=answers, args=(said,), daemon=True).start()

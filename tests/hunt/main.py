@@ -62,9 +62,10 @@ def state_of(folder):
     return json.loads((folder / "hunt.json").read_text(encoding="utf-8"))
 
 
-def told_lie(folder, lie, out):
-    """A lie is found, made small, and told."""
+def told_lie(folder, lie, out, is_browser=False):
+    """A lie is found, made small, and told. A browser that ends is started anew for each script that is tried, so that fewer are."""
     _, _, names, most = LIES[lie]
+    most = 60 if is_browser and lie == "crash" else most
     found = [row for row in state_of(folder)["found"].values() if row["name"].startswith(names)]
     check(found, f"{lie}: nothing was found of it: {out[-600:]}")
     for row in found[:1]:
@@ -173,9 +174,9 @@ def test_known():
 def test_lying_browser(folder):
     """A browser that lies is found out."""
     for lie, (of, cases, _, _) in LIES.items():
-        words = ("--of", of, "--from", f"tests/cases/{cases}", "--scripts", 16, "--out", folder / f"browser-{lie}")
+        words = ("--of", of, "--from", f"tests/cases/{cases}", "--scripts", 8, "--out", folder / f"browser-{lie}")
         out, _ = wgsim("hunt", "--browser", HERE / "lying_browser", *words, status=1, env={**os.environ, "WGSIM_LIE": lie})
-        told_lie(folder / f"browser-{lie}", lie, out)
+        told_lie(folder / f"browser-{lie}", lie, out, True)
 
 
 def test_browser(folder, scripts):

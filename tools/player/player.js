@@ -7,7 +7,7 @@
 // script waits for, so that what is asked for stays asked for until then.
 'use strict';
 
-const LONGEST = 4000;                    // how long one promise is waited for, in milliseconds
+const LONGEST = 4000, QUEUE = 20000;     // how long one promise is waited for, and the work of the queue, in milliseconds
 const MOST_BYTES = 1 << 25;
 const CONSTRUCTORS = { validation: 'GPUValidationError', 'out-of-memory': 'GPUOutOfMemoryError', internal: 'GPUInternalError' };
 
@@ -15,9 +15,9 @@ const kindOf = error => Object.keys(CONSTRUCTORS).find(kind => error instanceof 
 const thrown = error => `${error && error.name}: ${error && error.message}`;
 const wait = milliseconds => new Promise(done => setTimeout(done, milliseconds));
 // What a promise comes to, or the word `late` where it comes to nothing in time.
-const inTime = promise => {
+const inTime = (promise, longest = LONGEST) => {
   let timer;
-  const late = new Promise(done => { timer = setTimeout(done, LONGEST, 'late'); });
+  const late = new Promise(done => { timer = setTimeout(done, longest, 'late'); });
   return Promise.race([promise, late]).finally(() => clearTimeout(timer));
 };
 let zeros = null;
@@ -109,7 +109,10 @@ class Playing {
   present({ canvas }) {
     if (!canvas.width || !canvas.height) return;
     for (const filter of ['out-of-memory', 'validation']) this.device.pushErrorScope(filter);
-    try { canvas.transferToImageBitmap().close(); } finally { for (let n = 0; n < 2; n++) this.open.push(this.device.popErrorScope().catch(() => null)); }
+    try { canvas.transferToImageBitmap().close(); } catch (error) {
+      // Of a texture that could not be made no image can be, and nothing is to be told of it.
+    }
+    for (let n = 0; n < 2; n++) this.open.push(this.device.popErrorScope().catch(() => null));
   }
 
   call(call) {
@@ -143,13 +146,13 @@ class Playing {
 
   async run() {
     for (const call of this.calls) {
-      if (call.do === 'complete') await inTime(this.held.isLost ? null : this.device.queue.onSubmittedWorkDone());
+      if (call.do === 'complete') await inTime(this.held.isLost ? null : this.device.queue.onSubmittedWorkDone(), QUEUE);
       else this.call(call);
       for (const n of call.wait || []) {
         if (this.promises[n] && await inTime(this.promises[n]) === 'late') this.answer(n).isLate = true;
       }
     }
-    if (!this.isLost && !this.held.isLost && await inTime(this.device.queue.onSubmittedWorkDone().then(() => 'done', () => 'done')) === 'late') this.isHung = true;
+    if (!this.isLost && !this.held.isLost && await inTime(this.device.queue.onSubmittedWorkDone().then(() => 'done', () => 'done'), QUEUE) === 'late') this.isHung = true;
     await inTime(Promise.all(this.open));
     await inTime(Promise.all(Object.values(this.promises)));
     await wait(0);

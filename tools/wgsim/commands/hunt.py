@@ -4,18 +4,29 @@ down in a folder with a page that shows it. docs/hunting.md has all of it.
 Where no program is proved, the second reading answers first, and the program without proofs is asked of each difference.
 """
 
+from __future__ import annotations
+
 import re
 import sys
+from typing import TYPE_CHECKING, Callable, NoReturn
 
 from wgsim import exit_status, inputs
 from wgsim.program.program import Program
+
+if TYPE_CHECKING:
+    import argparse
+
+    from wgsim.hunting.core import Core
+    from wgsim.hunting.findings import Findings
+    from wgsim.hunting.hunt import Other
+    from wgsim.hunting.sources import Source
 
 HELP = "scripts at random, played by a browser or an engine"
 BY_PROGRAM = True
 SCRIPTS, SEED, FOLDER = 1000, 1, "hunt"
 
 
-def add_words(parser):
+def add_words(parser: argparse.ArgumentParser) -> None:
     parser.add_argument("--browser", metavar="BROWSER", help="chromium, or the path of a browser that takes its flags")
     parser.add_argument("--command", dest="engine", metavar="PROGRAM", help="hunts a command that reads a script and writes a report")
     parser.add_argument("--traces", action="store_true", help="has `check` judge the traces of the command too")
@@ -27,7 +38,7 @@ def add_words(parser):
     parser.add_argument("--out", metavar="FOLDER", help=f"where what is found is written: {FOLDER}; one of an earlier hunt goes on")
 
 
-def test(words, wrong):
+def test(words: argparse.Namespace, wrong: Callable[[str], NoReturn]) -> None:
     """The words that go together."""
     for name, word in (("--seed", words.seed), ("--scripts", words.scripts), ("--minutes", words.minutes)):
         if word is not None and not re.fullmatch(r"[0-9]{1,9}", word) or word == "0":
@@ -40,7 +51,7 @@ def test(words, wrong):
         wrong("--traces is of a --command: no browser shows a trace")
 
 
-def act(words):
+def act(words: argparse.Namespace) -> int:
     from wgsim.hunting import browsers, core, engines, findings, sources
     from wgsim.recorder import browser
 
@@ -66,7 +77,7 @@ def act(words):
         raise exit_status.End(exit_status.NO_ANSWER, f"{path}: {gone}") from None
 
 
-def hunted(words, core, other, source, found):
+def hunted(words: argparse.Namespace, core: Core, other: Other, source: Source, found: Findings) -> int:
     """Hunts, and tells what was found, also where the hunt is stopped."""
     from wgsim.hunting import findings, hunt
 

@@ -37,7 +37,7 @@ class Player:
         self.plays, self.starts = 0, 0
         self.about: dict[str, str] = {}
         self.limits: dict[str, int] = {}
-        self.most_ends = 60
+        self.most_ends = 24
 
     def begin(self) -> None:
         """Starts the browser, and opens the page."""
@@ -109,7 +109,7 @@ class Player:
 def play_of(answered: Answered) -> dict[str, Any]:
     """A script as the page takes it. One with error scopes of its own is played with these alone too."""
     made = translated(answered)
-    uncaught = sum(is_uncaught(entry.fault) for entry in answered.entry_of.values() if entry.fault is not None)
+    uncaught = sum(is_uncaught(entry.fault, answered.whole[number]) for number, entry in answered.entry_of.items())
     return {"calls": made, "limits": answered.flat.limits, "scopes": any(call["do"] in SCOPES for call in made), "uncaught": uncaught}
 
 

@@ -100,8 +100,11 @@ class Core:
         from model import answers
 
         data = json.dumps(top).encode()
-        status, out = answers.answer(data, chance.choice) if self.is_second else self.program.run(data)
-        return None if status != exit_status.SAME else out if isinstance(out, str) else out.decode("utf-8")
+        if self.is_second:
+            status, text = answers.answer(data, chance.choice)
+            return text if status == exit_status.SAME else None
+        status, out = self.program.run(data)
+        return out.decode("utf-8") if status == exit_status.SAME else None
 
 
 def history_of(text: str) -> list[str]:

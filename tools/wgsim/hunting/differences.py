@@ -161,9 +161,8 @@ class Compared:
                 answer = own["answers"].get(str(number), {})
                 found = [*self.scope(number, call, answer)]
                 self.found += found
-        wanted = collections.Counter(
-            entry.fault[0] for entry in self.answered.entry_of.values() if entry.fault is not None and is_uncaught(entry.fault)
-        )
+        faults = [(entry.fault, self.answered.whole[number]) for number, entry in self.answered.entry_of.items() if entry.fault is not None]
+        wanted = collections.Counter(fault[0] for fault, call in faults if is_uncaught(fault, call))
         met = collections.Counter(stray["kind"] for stray in own.get("stray") or [])
         # A device that is destroyed drops the events that are still on their way.
         is_lost = any(call["do"] == "lose" for call in self.answered.flat.calls)
@@ -181,9 +180,10 @@ class Compared:
             yield Difference(SCOPE, number, call["do"], f"gives {wanted}", f"gives {found}", None, f"{wanted} {found}")
 
 
-def is_uncaught(fault: Any) -> bool:
-    """Whether an error comes to no scope; what is thrown comes to none, and to no handler."""
-    return fault[2] == "uncaptured" and fault[1] not in THROWS
+def is_uncaught(fault: Any, call: dict[str, Any]) -> bool:
+    """Whether an error comes to no scope; what is thrown comes to none, and to no handler. Of a write it is the size that is thrown."""
+    is_thrown = fault is not None and fault[1] in THROWS and (call["do"] != "writeBuffer" or call["size"] % 4 != 0)
+    return fault is not None and fault[2] == "uncaptured" and not is_thrown
 
 
 def is_same(fault: Any, answer: dict[str, Any]) -> bool:

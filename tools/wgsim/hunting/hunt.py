@@ -151,8 +151,10 @@ class Hunt:
             return
         again = differences_of(made.answered, self.played([made.answered])[0])
         if not any(each.key() == difference.key() for each in again):
-            self.findings.count("differences that did not come again")
+            self.findings.count(f"that did not come again ({difference.kind})")
             return
+        # As it is, so that it is kept where the hunt is stopped while it is made small.
+        self.findings.add(made.answered, difference, made.number, made.source)
         answered, small = self.small(made.answered, difference)
         confirmed = self.core.confirmed(answered.flat) if self.core.is_second else answered
         if confirmed is None or [entry.line for entry in confirmed.entry_of.values()] != [e.line for e in answered.entry_of.values()]:
@@ -173,8 +175,10 @@ class Hunt:
                     found[one] = same[0]
             return [one in found for one in scripts]
 
-        most = self.other.most_ends if difference.kind in (GONE, HUNG) else smaller.MOST_TRIES
-        best = smaller.Smaller(self.core, shows, answered, most).made(difference.number)
+        making = smaller.Smaller(self.core, shows, answered)
+        if difference.kind in (GONE, HUNG):
+            making.most, making.at_once = self.other.most_ends, 1
+        best = making.made(difference.number)
         return best, found[best]
 
     def progress(self) -> None:

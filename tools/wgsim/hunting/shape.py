@@ -30,13 +30,15 @@ class Slot(NamedTuple):
 @functools.lru_cache(maxsize=None)
 def keys_of(word: str) -> dict[str, calls.Key]:
     """The keys of a call."""
-    return calls.keys_of(word)
+    keys = calls.keys_of(word)
+    assert keys is not None
+    return keys
 
 
 @functools.lru_cache(maxsize=None)
 def keys_by_form(sort: str, form: str | None) -> dict[str, calls.Key]:
     """The keys of an object in a call that has a form."""
-    further = calls.forms_of(sort).get(form, {})
+    further = calls.forms_of(sort).get(form, {}) if form is not None else {}
     return {name: calls.Key(text) for name, text in {**calls.OBJECTS[sort]["keys"], **further}.items()}
 
 

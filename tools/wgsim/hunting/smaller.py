@@ -32,9 +32,9 @@ Shows = Callable[[list], list]
 class Smaller:
     """A script that is made smaller. `shows` tells of some scripts, with what the core answers to them, which still show it."""
 
-    def __init__(self, core: Core, shows: Shows, answered: Answered, most: int) -> None:
-        self.core, self.shows, self.best, self.most = core, shows, answered, most
-        self.tries = 0
+    def __init__(self, core: Core, shows: Shows, answered: Answered) -> None:
+        self.core, self.shows, self.best = core, shows, answered
+        self.most, self.at_once, self.tries = MOST_TRIES, AT_ONCE, 0
 
     def accept(self, candidates: Iterator[tuple[list[dict[str, Any]], Any]]) -> bool:
         """Takes the first of some scripts that still shows the difference; whether there was one."""
@@ -43,9 +43,9 @@ class Smaller:
             answered = again(self.core, Flat(script, limits)) if script else None
             if answered is not None and answered.entry_of and size_of(answered.flat) < size_of(self.best.flat):
                 waiting.append(answered)
-            if len(waiting) == AT_ONCE and self.take(waiting):
+            if len(waiting) == self.at_once and self.take(waiting):
                 return True
-            waiting = [] if len(waiting) == AT_ONCE else waiting
+            waiting = [] if len(waiting) == self.at_once else waiting
             if self.tries >= self.most:
                 return False
         return bool(waiting) and self.take(waiting)

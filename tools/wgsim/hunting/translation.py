@@ -39,7 +39,9 @@ def slim(described: dict[str, Any]) -> dict[str, Any]:
 
 def translated(answered: Answered) -> list[dict[str, Any]]:
     """The calls of a script in a browser, in their order."""
-    made = []
+    made: list[dict[str, Any]] = []
+    places = {promise: number for number, promises in answered.settled_at.items() for promise in promises}
+    maps = {number: places.get(number, len(answered.whole)) for number, call in enumerate(answered.whole) if call["do"] == "mapAsync"}
     for number, call in enumerate(answered.whole):
         entry = answered.entry_of.get(number)
         told = {"n": number, "do": call["do"], **TRANSLATE[call["do"]](call)}
@@ -54,7 +56,9 @@ def translated(answered: Answered) -> list[dict[str, Any]]:
             told["watch"] = watched(call["do"])
         if entry is not None and entry.answer == ["promise"]:
             told["promise"] = True
-        waits = [each for each in answered.settled_at.get(number, []) if waits_for(answered, each)]
+        # What waits lets the queue go on, so that a map that is to stay pending would come true.
+        is_pending = call["do"] != "complete" and any(begun < number < end for begun, end in maps.items())
+        waits = [each for each in answered.settled_at.get(number, []) if waits_for(answered, each) and not is_pending]
         made.append({**told, "wait": waits} if waits else told)
     return made
 

@@ -3,8 +3,17 @@
 Keys with their usual value are sometimes left out of an entry; `told` does that, when the call is added to the script.
 """
 
+from __future__ import annotations
+
+from typing import TYPE_CHECKING, Any
+
 from .limiting import of as limit
 from .resources import COLOR_FORMATS, DEPTH_FORMATS, STORAGE_FORMATS, VIEW_DIMS
+
+if TYPE_CHECKING:
+    from random import Random
+
+    from .handed import Entry
 
 GREATEST_32 = 2**32 - 1
 VERTEX, COMPUTE = 1, 4
@@ -31,15 +40,22 @@ COUNTED = {
 }
 
 
-def most_size(kind):
+def most_size(kind: str) -> int:
     """How many bytes may be bound of a kind of buffer, or of one of a kind that may be of the default size."""
     return min(limit(SIZE_LIMITS[kind]), limit("maxBufferSize"))
 
 
-def counted(sort):
+def counted(sort: str) -> tuple[list[str], int, int | None]:
     """Of a sort of bindings its kinds, how many a stage may see, and how many may be dynamic, or None."""
     kinds, seen, dynamic = COUNTED[sort]
     return kinds, limit(seen), None if dynamic is None else limit(dynamic)
+
+
+def most_dynamic(sort: str) -> int:
+    """How many of a sort of buffers may be dynamic."""
+    dynamic = counted(sort)[2]
+    assert dynamic is not None
+    return dynamic
 
 
 USUAL = {
@@ -54,21 +70,21 @@ USUAL = {
 }
 
 
-def told(random, entry):
+def told(random: Random, entry: Entry) -> Entry:
     """An entry as the script has it: keys that have their usual value are left out at times."""
     return {key: value for key, value in entry.items() if key not in USUAL or USUAL[key] != value or random.random() < 0.3}
 
 
-def used_by(random, group, entry):
+def used_by(random: Random, group: int, entry: Entry) -> Entry:
     """An entry of an interface that a layout offers; what is dynamic and the least size make no difference."""
-    used = {"group": group} | {key: value for key, value in entry.items() if key != "visibility"}
+    used = {"group": group, **{key: value for key, value in entry.items() if key != "visibility"}}
     if "dynamic" in used and random.random() < 0.5:
         used["dynamic"] = random.random() < 0.5
         used["minSize"] = random.choice([0, 4, 2**53 - 1])
     return used
 
 
-def some_kind(random, word=None):
+def some_kind(random: Random, word: str | None = None) -> Entry:
     """A good kind of a binding, with all of its keys."""
     word = word or random.choice(KINDS)
     if word in BUFFER_KINDS:
@@ -87,30 +103,30 @@ def some_kind(random, word=None):
     return {"kind": word, "sample": sample, "dim": random.choice(dims), "multi": False}
 
 
-def is_written(kind):
+def is_written(kind: Entry) -> bool:
     return kind["kind"] == "storage" or kind["kind"] == "storage-texture" and kind["access"] != "read-only"
 
 
-def some_visibility(random, kind):
+def some_visibility(random: Random, kind: Entry) -> int:
     """Stages that may see a binding of a kind."""
     return random.choice([0, 2, 4, 4, 6] if is_written(kind) else [0, 1, 2, 3, 4, 4, 5, 6, 7, 7])
 
 
-def with_binding(random, kinds, first=0):
+def with_binding(random: Random, kinds: list[Entry], first: int = 0) -> list[Entry]:
     """Entries of some kinds, each with a binding of its own, from a first one on, or at times at the limit."""
     bindings = list(range(first, first + len(kinds)))
     if random.random() < 0.1 and bindings:
         bindings[-1] = limit("maxBindingsPerBindGroup") - 1
     random.shuffle(bindings)
-    return [{"binding": binding, "visibility": some_visibility(random, kind)} | kind for binding, kind in zip(bindings, kinds)]
+    return [{"binding": binding, "visibility": some_visibility(random, kind), **kind} for binding, kind in zip(bindings, kinds)]
 
 
-def some_entries(random, most=5):
+def some_entries(random: Random, most: int = 5) -> list[Entry]:
     """The entries of a good layout."""
     return with_binding(random, [some_kind(random) for _ in range(random.randint(0, most))], random.choice([0, 0, 0, 1, 7]))
 
 
-def of_sort(random, sort, stage=0):
+def of_sort(random: Random, sort: str, stage: int = 0) -> Entry:
     """A kind of a counted sort, that a stage may see."""
     while True:
         kind = some_kind(random, random.choice(COUNTED[sort][0]))
@@ -118,7 +134,7 @@ def of_sort(random, sort, stage=0):
             return kind
 
 
-def seen_entries(random, sort, stage, count):
+def seen_entries(random: Random, sort: str, stage: int, count: int) -> list[Entry]:
     """So many entries of a sort that a stage sees, each seen by others too or not."""
     kinds = [of_sort(random, sort, stage) for _ in range(count)]
     for kind in kinds:
@@ -130,7 +146,7 @@ def seen_entries(random, sort, stage, count):
     return entries
 
 
-def unseen_entries(random, sort, stage):
+def unseen_entries(random: Random, sort: str, stage: int) -> list[Entry]:
     """A few entries of the same sort that the stage does not see, and of other sorts, that it may see."""
     entries = with_binding(random, [of_sort(random, sort) for _ in range(random.choice([0, 0, 1, 2]))], 40)
     for entry in entries:
@@ -140,7 +156,7 @@ def unseen_entries(random, sort, stage):
     return entries + with_binding(random, [of_sort(random, random.choice(others)) for _ in range(random.choice([0, 1, 2]))], 50)
 
 
-def border_of_stage(random, more=0):
+def border_of_stage(random: Random, more: int = 0) -> list[Entry]:
     """Entries of which a stage sees just as many as it may of one sort, or so many more."""
     sort, stage = random.choice(list(COUNTED)), random.choice([1, 2, 4])
     entries = seen_entries(random, sort, stage, counted(sort)[1] + more) + unseen_entries(random, sort, stage)
@@ -148,57 +164,57 @@ def border_of_stage(random, more=0):
     return entries
 
 
-def dynamic_entries(random, sort, count):
+def dynamic_entries(random: Random, sort: str, count: int) -> list[Entry]:
     """So many dynamic buffers of a sort, whatever sees them."""
-    return with_binding(random, [of_sort(random, sort) | {"dynamic": True} for _ in range(count)])
+    return with_binding(random, [{**of_sort(random, sort), "dynamic": True} for _ in range(count)])
 
 
-def border_of_dynamic(random, more=0):
+def border_of_dynamic(random: Random, more: int = 0) -> list[Entry]:
     """Just as many dynamic buffers of one sort as there may be, or so many more, and others that are not dynamic."""
     sort = random.choice(["uniform buffer", "storage buffer"])
-    others = [of_sort(random, sort) | {"dynamic": False} for _ in range(random.randint(0, 3))]
-    entries = dynamic_entries(random, sort, counted(sort)[2] + more) + with_binding(random, others, 30)
+    others = [{**of_sort(random, sort), "dynamic": False} for _ in range(random.randint(0, 3))]
+    entries = dynamic_entries(random, sort, most_dynamic(sort) + more) + with_binding(random, others, 30)
     random.shuffle(entries)
     return entries
 
 
-def parts_of(random, entries, most=4):
+def parts_of(random: Random, entries: list[Entry], most: int = 4) -> list[list[Entry]]:
     """The entries in two to so many lists, in order, with bindings from 0 on in each."""
     cuts = sorted(random.randint(0, len(entries)) for _ in range(random.randint(1, most - 1)))
     parts = [entries[low:high] for low, high in zip([0, *cuts], [*cuts, len(entries)])]
-    return [[entry | {"binding": place} for place, entry in enumerate(part)] for part in parts]
+    return [[{**entry, "binding": place} for place, entry in enumerate(part)] for part in parts]
 
 
-def entry_for(random, entries, word):
+def entry_for(random: Random, entries: list[Entry], word: str | None) -> Entry:
     """A new entry of a kind in place of one of some entries, or beside them."""
     entry = with_binding(random, [some_kind(random, word)], 60)[0]
     if entries and random.random() < 0.5:
         at = random.randrange(len(entries))
-        entries[at] = entry | {"binding": entries[at]["binding"]}
+        entries[at] = {**entry, "binding": entries[at]["binding"]}
         return entries[at]
     entries.insert(random.randint(0, len(entries)), entry)
     return entry
 
 
-def binding_twice(random, entries):
+def binding_twice(random: Random, entries: list[Entry]) -> None:
     for _ in range(2 - len(entries)):
         entries.append(with_binding(random, [some_kind(random)], 20)[0])
     one, other = random.sample(entries, 2)
     other["binding"] = one["binding"]
 
 
-def binding_past(random, entries):
+def binding_past(random: Random, entries: list[Entry]) -> None:
     entry_for(random, entries, None)["binding"] = (
         limit("maxBindingsPerBindGroup") + random.choice([0, 0, 1, 1000]) if random.random() < 0.8 else GREATEST_32
     )
 
 
-def unknown_stage(random, entries):
+def unknown_stage(random: Random, entries: list[Entry]) -> None:
     entry = entry_for(random, entries, None)
     entry["visibility"] = random.choice([8, 8, 8, 9, 15, entry["visibility"] + 8, 2**31, GREATEST_32])
 
 
-def written_at_vertex(random, entries):
+def written_at_vertex(random: Random, entries: list[Entry]) -> None:
     word = random.choice(["storage", "storage-texture", "storage-texture"])
     entry = entry_for(random, entries, word)
     if word == "storage-texture":
@@ -207,24 +223,24 @@ def written_at_vertex(random, entries):
     entry["visibility"] = random.choice([1, 3, 5, 7])
 
 
-def multisampled_dim(random, entries):
+def multisampled_dim(random: Random, entries: list[Entry]) -> None:
     entry = entry_for(random, entries, "texture")
     entry.update(multi=True, dim=random.choice(["2d-array", *(dim for dim in VIEW_DIMS if dim != "2d")]), sample=random.choice(SAMPLES[1:]))
 
 
-def multisampled_float(random, entries):
+def multisampled_float(random: Random, entries: list[Entry]) -> None:
     entry_for(random, entries, "texture").update(multi=True, dim="2d", sample="float")
 
 
-def multisampled_all(random, entries):
+def multisampled_all(random: Random, entries: list[Entry]) -> None:
     entry_for(random, entries, "texture").update(multi=True, dim="2d", sample=random.choice(SAMPLES[1:]))
 
 
-def storage_cube(random, entries):
+def storage_cube(random: Random, entries: list[Entry]) -> None:
     entry_for(random, entries, "storage-texture")["dim"] = random.choice(["cube", "cube-array"])
 
 
-def no_access(random, entries):
+def no_access(random: Random, entries: list[Entry]) -> None:
     entry = entry_for(random, entries, "storage-texture")
     entry["access"] = random.choice(ACCESSES)
     fit = READ_WRITE_FORMATS if entry["access"] == "read-write" else STORAGE_FORMATS
@@ -234,17 +250,17 @@ def no_access(random, entries):
         entry["visibility"] &= ~VERTEX
 
 
-def add(random, entries, others, first):
+def add(random: Random, entries: list[Entry], others: list[Entry], first: int) -> None:
     """Adds other entries, whose bindings are moved to stand apart."""
-    entries += [entry | {"binding": entry["binding"] + first if entry["binding"] < 900 else entry["binding"]} for entry in others]
+    entries += [{**entry, "binding": entry["binding"] + first if entry["binding"] < 900 else entry["binding"]} for entry in others]
     random.shuffle(entries)
 
 
-def too_many_seen(random, entries):
+def too_many_seen(random: Random, entries: list[Entry]) -> None:
     add(random, entries, border_of_stage(random, random.choice([1, 1, 1, 2])), 100)
 
 
-def too_many_dynamic(random, entries):
+def too_many_dynamic(random: Random, entries: list[Entry]) -> None:
     add(random, entries, border_of_dynamic(random, 1), 200)
 
 
@@ -255,7 +271,7 @@ LAYOUT_FAULTS = [
 ]
 
 
-def spoil_entries(random, entries):
+def spoil_entries(random: Random, entries: list[Entry]) -> None:
     """Leaves one rule of a layout unmet, or two that are near each other; what fills a layout comes last."""
     first = random.randrange(len(LAYOUT_FAULTS))
     faults = random.sample(LAYOUT_FAULTS[first:first + 4], min(random.choice([1, 2]), len(LAYOUT_FAULTS) - first))
@@ -263,9 +279,9 @@ def spoil_entries(random, entries):
         fault(random, entries)
 
 
-def other_value(random, key, value):
+def other_value(random: Random, key: str, value: Any) -> Any:
     """Another value of a key of a kind."""
-    values = {
+    values: dict[str, list[Any]] = {
         "type": SAMPLERS, "sample": SAMPLES, "dim": VIEW_DIMS, "multi": [False, True], "access": ACCESSES, "format": COLOR_FORMATS,
         "kind": KINDS,
     }

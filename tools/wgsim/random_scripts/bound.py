@@ -1,8 +1,18 @@
 """What the entries of a bind group bind: good objects for what a layout asks, at the border of a rule, and ones that leave one unmet."""
 
+from __future__ import annotations
+
+from typing import TYPE_CHECKING, Collection
+
 from .bindings import BUFFER_KINDS, GREATEST_32, SAMPLERS, most_size, other_value, some_kind, told
 from .limiting import of as limit
 from .resources import COLOR_FORMATS, STORAGE_FORMATS
+
+if TYPE_CHECKING:
+    from random import Random
+
+    from .handed import Call, Entry, Faults
+    from .world import Thing, World
 
 ALIGNMENT = 256
 GREATEST_53 = 2**53 - 1
@@ -43,24 +53,24 @@ FAULTS = {
 }
 
 
-def sort_of(asked):
+def sort_of(asked: Entry) -> str:
     """The faults' name for a kind."""
     return "buffer" if asked["kind"] in BUFFER_KINDS else asked["kind"]
 
 
-def bind(world, asked, faults=()):
+def bind(world: World, asked: Entry, faults: Collection[str] = ()) -> Entry:
     """An entry of a bind group for an entry of a layout."""
     random = world.random
     if "sort" in faults:
-        asked = some_kind(random) | {"binding": asked["binding"]}
+        asked = {**some_kind(random), "binding": asked["binding"]}
     binder = {"buffer": bind_buffer, "sampler": bind_sampler}.get(sort_of(asked), bind_view)
     entry, thing = binder(world, asked, faults)
     if "dropped" in faults:
         world.drop(thing)
-    return told(random, {"binding": asked["binding"]} | entry)
+    return told(random, {"binding": asked["binding"], **entry})
 
 
-def buffer_range(random, asked, faults):
+def buffer_range(random: Random, asked: Entry, faults: Collection[str]) -> tuple[int, int, int | None]:
     """The size of a buffer, and an offset and a size that is left out or not; as good as the faults let them be."""
     kind, most = asked["kind"], most_size(asked["kind"])
     step = 1 if kind == "uniform" else 4
@@ -90,7 +100,7 @@ def buffer_range(random, asked, faults):
     return room + random.choice([0, 0, 0, 1, 4, 256]), offset, size
 
 
-def bind_buffer(world, asked, faults):
+def bind_buffer(world: World, asked: Entry, faults: Collection[str]) -> tuple[Entry, Thing]:
     random = world.random
     bit = 64 if asked["kind"] == "uniform" else 128
     wanted, offset, size = buffer_range(random, asked, faults)
@@ -103,10 +113,10 @@ def bind_buffer(world, asked, faults):
             usage=usage,
             mapped=random.random() < 0.05 and wanted % 4 == 0,
         )
-    return {"buffer": thing.name, "offset": offset} | ({} if size is None else {"size": size}), thing
+    return {"buffer": thing.name, "offset": offset, **({} if size is None else {"size": size})}, thing
 
 
-def found_buffer(world, bit, offset, size):
+def found_buffer(world: World, bit: int, offset: int, size: int | None) -> Thing | None:
     """A buffer that is there and that a range fits, at times one that was destroyed or is mapped, since that does not count."""
     is_any = world.random.random() < 0.15
     old = [
@@ -117,7 +127,7 @@ def found_buffer(world, bit, offset, size):
     return world.random.choice(old[-8:]) if old and world.random.random() < 0.7 else None
 
 
-def bind_sampler(world, asked, faults):
+def bind_sampler(world: World, asked: Entry, faults: Collection[str]) -> tuple[Entry, Thing]:
     random = world.random
     fit = [asked["type"]] + ["non-filtering"] * (asked["type"] == "filtering")
     kind = random.choice([kind for kind in SAMPLERS if kind not in fit] if "type" in faults else fit)
@@ -126,7 +136,7 @@ def bind_sampler(world, asked, faults):
     return {"sampler": thing.name}, thing
 
 
-def sampler(world, kind):
+def sampler(world: World, kind: str) -> Thing:
     call = {"do": "createSampler", "kind": kind}
     if kind == "filtering" and world.random.random() < 0.5:
         del call["kind"]
@@ -136,7 +146,7 @@ def sampler(world, kind):
     return thing
 
 
-def bind_view(world, asked, faults):
+def bind_view(world: World, asked: Entry, faults: Collection[str]) -> tuple[Entry, Thing]:
     """A view that is made for what is asked, or one that was made for the same before."""
     random, role = world.random, repr(
         sorted((key, value) for key, value in asked.items() if key not in ("binding", "visibility", "access"))
@@ -152,7 +162,7 @@ def bind_view(world, asked, faults):
     return {"view": thing.name}, thing
 
 
-def view_values(random, asked, faults):
+def view_values(random: Random, asked: Entry, faults: Collection[str]) -> tuple[str, str, str, int, int, int]:
     """Format, aspect, dimension, samples, usage and mip levels of a view that is asked for, but for the faults."""
     is_storage = asked["kind"] == "storage-texture"
     is_multi = not is_storage and asked["multi"] != ("multi" in faults)
@@ -181,7 +191,7 @@ def view_values(random, asked, faults):
 LAYERS = {"2d-array": [1, 2, 3], "cube": [6], "cube-array": [6, 12]}
 
 
-def new_view(world, format, aspect, dim, samples, usage, mips, faults):
+def new_view(world: World, format: str, aspect: str, dim: str, samples: int, usage: int, mips: int, faults: Collection[str]) -> Thing:
     """A texture and a view of it. Either has more mip levels or layers than the view at times."""
     random = world.random
     layers = random.choice(LAYERS.get(dim, [1]))
@@ -192,12 +202,13 @@ def new_view(world, format, aspect, dim, samples, usage, mips, faults):
     mips = min(mips, most)
     if samples == 4:
         usage = usage & ~STORAGE_BINDING | RENDER_ATTACHMENT
-    wanted = {"size": size, "usage": usage, "format": format, "dim": of_texture, "mips": random.choice([mips, most]), "samples": samples}
+    wanted: Call = {"size": size, "usage": usage, "format": format, "dim": of_texture}
+    wanted.update(mips=random.choice([mips, most]), samples=samples)
     if of_texture == "2d" and samples == 1:
         size[2] += random.choice([0, 0, 1, 6])
     is_good = "invalid" not in faults
     has_texture = is_good or random.random() < 0.5
-    texture = world.texture_as(has_texture, wanted if has_texture else wanted | {"usage": 0})
+    texture = world.texture_as(has_texture, wanted if has_texture else {**wanted, "usage": 0})
     call = {"do": "createView", "texture": texture.name, "dim": dim, "aspect": aspect, "mips": mips, "layers": layers}
     call["baseMip"] = random.choice([0, wanted["mips"] - mips])
     call["baseLayer"] = random.choice([0, size[2] - layers]) if of_texture == "2d" else 0
@@ -215,12 +226,12 @@ WHOLE_FAULTS = ["missing", "more", "twice", "binding"]
 OBJECT_FAULTS = ["sort", "sort", "sort", "invalid", "dropped"]
 
 
-def faults_for(random, entries):
+def faults_for(random: Random, entries: list[Entry]) -> Faults:
     """Faults by the place of an entry: one as a rule, at times two; those of the whole have no place."""
-    found = {}
+    found: Faults = {}
     if entries and random.random() < 0.12:
-        for place in random.sample(range(len(entries)), min(len(entries), 2)):
-            found[place] = set(random.choice([["invalid"], ["dropped"], ["invalid", "dropped"]]))
+        for at in random.sample(range(len(entries)), min(len(entries), 2)):
+            found[at] = set(random.choice([["invalid"], ["dropped"], ["invalid", "dropped"]]))
         return found
     for _ in range(random.choice([1, 2])):
         place = random.randrange(len(entries)) if entries else None
@@ -232,7 +243,7 @@ def faults_for(random, entries):
     return found
 
 
-def bound_entries(world, entries, faults):
+def bound_entries(world: World, entries: list[Entry], faults: Faults) -> list[Entry]:
     """The entries of a bind group for those of a layout, in some order, with faults by their places."""
     random = world.random
     bound = [bind(world, asked, faults.get(place, ())) for place, asked in enumerate(entries)]
@@ -241,7 +252,7 @@ def bound_entries(world, entries, faults):
         bound.pop(random.randrange(len(bound)))
     if "more" in whole or "missing" in whole and not entries:
         lacking = next(binding for binding in (3, 8, 9, *range(10, 100)) if binding not in [entry["binding"] for entry in entries])
-        bound.append(bind(world, {"binding": random.choice([lacking, lacking, GREATEST_32])} | some_kind(random)))
+        bound.append(bind(world, {"binding": random.choice([lacking, lacking, GREATEST_32]), **some_kind(random)}))
     if "twice" in whole and entries and bound:
         bound.append(random.choice([random.choice(bound), bind(world, random.choice(entries))]))
     if "binding" in whole and bound:

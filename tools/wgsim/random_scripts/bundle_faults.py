@@ -1,10 +1,13 @@
 """Ways to leave a rule of bundles unmet: those of the making of a bundle encoder, which change its calls from its making to its finish, and
 those of the bundles that a render pass executes. As in `pass_faults`, what they need is made before."""
 
+from __future__ import annotations
+
 import copy
+from typing import TYPE_CHECKING, Callable
 
 from .bundling import ASPECTS, bundle_of, create_call, executes, new_bundle, own_target, parts_of
-from .dispatching import named, new_layout
+from .dispatching import known, new_layout
 from .drawing import sampled_attachment
 from .grouping import usable
 from .pass_faults import GREATEST_32, WORK, first_or_any, places
@@ -12,14 +15,20 @@ from .resources import COLOR_FORMATS, DEPTH_FORMATS
 from .targets import FOUR_COLORS, MOST_COLORS, Target
 from .targets import parts_of as spot_parts
 
+if TYPE_CHECKING:
+    from random import Random
+
+    from .handed import Call, Cell, Fault
+    from .world import Thing, World
+
 # INDEX, VERTEX, UNIFORM and STORAGE.
 DRAWN_AND_BOUND = 16 | 32 | 64 | 128
 ONE_COLORS = [format for format in COLOR_FORMATS if format not in FOUR_COLORS]
 
 
-def of_create(change):
+def of_create(change: Callable[[Random, Call], None]) -> Fault:
     """A fault of a createBundleEncoder: made of a function that may change all of its call."""
-    def fault(world, encoder, on, calls):
+    def fault(world: World, encoder: str, on: str, calls: list[Call]) -> None:
         call = copy.deepcopy(calls[0])
         change(world.random, call)
         calls[0] = call
@@ -27,34 +36,34 @@ def of_create(change):
 
 
 @of_create
-def too_many_colors(random, call):
+def too_many_colors(random: Random, call: Call) -> None:
     call["colors"] += [random.choice([None, "rgba8unorm"])] * (MOST_COLORS + random.choice([1, 1, 1, 2, 40]) - len(call["colors"]))
 
 
 @of_create
-def depth_as_color(random, call):
+def depth_as_color(random: Random, call: Call) -> None:
     at = random.randint(0, len(call["colors"]))
     call["colors"][at:at + random.choice([0, 1])] = [random.choice(DEPTH_FORMATS)]
 
 
 @of_create
-def color_as_depth(random, call):
+def color_as_depth(random: Random, call: Call) -> None:
     call["depth"] = random.choice(COLOR_FORMATS)
 
 
 @of_create
-def no_targets(random, call):
+def no_targets(random: Random, call: Call) -> None:
     call.pop("depth", None)
     call["colors"] = [None] * random.choice([0, 1, MOST_COLORS, MOST_COLORS, MOST_COLORS + 1])
 
 
 @of_create
-def wrong_samples(random, call):
+def wrong_samples(random: Random, call: Call) -> None:
     call["samples"] = random.choice([0, 2, 3, 5, 8, GREATEST_32])
 
 
 @of_create
-def no_four_samples(random, call):
+def no_four_samples(random: Random, call: Call) -> None:
     call["samples"] = 4
     call["colors"] = [*call["colors"], random.choice(ONE_COLORS)][-MOST_COLORS:]
 
@@ -62,41 +71,41 @@ def no_four_samples(random, call):
 CREATE_FAULTS = [too_many_colors, depth_as_color, color_as_depth, no_targets, wrong_samples, no_four_samples]
 
 
-def target_of(world, begin):
+def target_of(world: World, begin: Call) -> Target | None:
     """What a pass draws to, by its begin, which is good."""
-    textures = [None if color is None else named(world.views, color["view"]).texture.call for color in begin["colors"]]
-    depth = named(world.views, begin["depth"]["view"]).texture.call if "depth" in begin else None
+    textures = [None if color is None else known(world.views, color["view"]).texture.call for color in begin["colors"]]
+    depth = known(world.views, begin["depth"]["view"]).texture.call if "depth" in begin else None
     some = next((texture for texture in [*textures, depth] if texture is not None), None)
     formats = [None if texture is None else texture["format"] for texture in textures]
     read_only = {aspect for aspect in ASPECTS if begin.get("depth", {}).get(f"{aspect}ReadOnly")}
     return None if some is None else Target(begin, formats, None if depth is None else depth["format"], some["samples"], read_only, {})
 
 
-def insert(world, on, calls, bundles):
+def insert(world: World, on: str, calls: list[Call], bundles: list[Thing]) -> None:
     """Bundles are executed at the begin of a pass, or anywhere in it."""
     at = world.random.choice([1, 1, world.random.randint(1, len(calls) - 1)])
     calls.insert(at, {"do": "executeBundles", "on": on, "bundles": [thing.name for thing in bundles]})
 
 
-def beside(world, target, bad):
+def beside(world: World, target: Target, bad: list[Thing]) -> list[Thing]:
     """A bad bundle alone or with one that is good, before or after it."""
     random = world.random
     good = [new_bundle(world, own_target(world, target))] if random.random() < 0.4 else []
     return random.sample([*good, *bad], len(good) + len(bad))
 
 
-def other_targets(world, encoder, on, calls):
+def other_targets(world: World, encoder: str, on: str, calls: list[Call]) -> None:
     """A bundle that agrees with the pass but for one thing."""
     target = target_of(world, calls[0])
     own = None if target is None else almost(world.random, target)
-    if own is not None:
+    if target is not None and own is not None:
         insert(world, on, calls, beside(world, target, [new_bundle(world, own)]))
 
 
-def almost(random, target):
+def almost(random: Random, target: Target) -> Target | None:
     """What is drawn to but for one thing, or None where that leaves nothing, or cannot be."""
-    formats, depth, samples = target.signature()
-    formats, kind = list(formats), random.choice([0, 1, 2, 3, 4, 5, 6, 7, 7])
+    own, depth, samples = target.signature()
+    formats, kind = list(own), random.choice([0, 1, 2, 3, 4, 5, 6, 7, 7])
     colors = FOUR_COLORS if samples == 4 else COLOR_FORMATS
     if kind == 0:
         formats = formats[:-1]
@@ -120,7 +129,7 @@ def almost(random, target):
     return Target(create_call(formats, depth, samples, target.read_only), formats, depth, samples, set(target.read_only), {})
 
 
-def not_read_only(world, encoder, on, calls):
+def not_read_only(world: World, encoder: str, on: str, calls: list[Call]) -> None:
     """An aspect of the depth becomes read-only in the pass, be it one that the format does not have; and the bundle has only others so."""
     random, begin = world.random, copy.deepcopy(calls[0])
     if "depth" in begin:
@@ -128,6 +137,7 @@ def not_read_only(world, encoder, on, calls):
             begin["depth"] = {key: value for key, value in begin["depth"].items() if key not in (f"{aspect}Load", f"{aspect}Store")}
             begin["depth"][f"{aspect}ReadOnly"] = True
         calls[0], target = begin, target_of(world, begin)
+        assert target is not None
         read_only = set(random.sample(ASPECTS, random.choice([0, 1, 1, 2])))
         formats, depth, samples = target.formats, target.depth, target.samples
         own = Target(create_call(formats, depth, samples, read_only), formats, depth, samples, read_only, {})
@@ -135,7 +145,7 @@ def not_read_only(world, encoder, on, calls):
         insert(world, on, calls, beside(world, target, [new_bundle(world, one) for one in [own, *more] if one is not None]))
 
 
-def invalid_bundle(world, encoder, on, calls):
+def invalid_bundle(world: World, encoder: str, on: str, calls: list[Call]) -> None:
     """A bundle that is invalid: of an encoder that is, by what was recorded, or since it comes of a second finish."""
     target = target_of(world, calls[0])
     bad = [thing for thing in world.bundles if not thing.good and not thing.dropped]
@@ -146,7 +156,7 @@ def invalid_bundle(world, encoder, on, calls):
         insert(world, on, calls, beside(world, target, [world.random.choice(bad[-6:])]))
 
 
-def unset(world, encoder, on, calls):
+def unset(world: World, encoder: str, on: str, calls: list[Call]) -> None:
     """Bundles are executed right before a draw, or between what is set for it, be it none."""
     random, found, target = world.random, places(calls, *WORK), target_of(world, calls[0])
     if target is not None:
@@ -156,7 +166,7 @@ def unset(world, encoder, on, calls):
         calls.insert(at, none if random.random() < 0.5 else executes(world, on, target, False))
 
 
-def beside_the_pass(world, encoder, on, calls):
+def beside_the_pass(world: World, encoder: str, on: str, calls: list[Call]) -> None:
     """A bundle that uses a buffer which the pass uses, or samples what it attaches, in the same role or in one that clashes."""
     random, target = world.random, target_of(world, calls[0])
     if target is None:
@@ -167,23 +177,26 @@ def beside_the_pass(world, encoder, on, calls):
     buffers = [
         thing for thing in usable(world, world.buffers) if thing.name in shared and thing.call["usage"] & DRAWN_AND_BOUND == DRAWN_AND_BOUND
     ]
+    body: list[Call] = []
     if group is None and buffers:
         thing = random.choice(buffers)
         group = storage_of(world, thing) if random.random() < 0.5 and thing.call["size"] >= 16 else None
-        setting = random.choice(
-            [{"do": "setVertexBuffer", "slot": 7}, {"do": "setIndexBuffer", "format": "uint16", "offset": thing.call["size"] // 2 * 2}]
-        )
-        body = [setting | {"buffer": thing.name}]
+        settings: list[Call] = [
+            {"do": "setVertexBuffer", "slot": 7},
+            {"do": "setIndexBuffer", "format": "uint16", "offset": thing.call["size"] // 2 * 2},
+        ]
+        setting = random.choice(settings)
+        body = [{**setting, "buffer": thing.name}]
     if group is not None:
         body = [{"do": "setBindGroup", "index": 3, "group": group.name}]
     if group is not None or buffers:
         insert(world, on, calls, [bundle_of(world, own_target(world, target), body)])
 
 
-def storage_of(world, buffer):
+def storage_of(world: World, buffer: Thing) -> Thing:
     """A group that binds the first bytes of a buffer as storage, which is written or not."""
     kind = {"kind": world.random.choice(["storage", "storage", "read-only-storage"]), "dynamic": False, "minSize": 0}
-    layout = new_layout(world, [{"binding": 0, "visibility": world.random.choice([0, 2])} | kind])
+    layout = new_layout(world, [{"binding": 0, "visibility": world.random.choice([0, 2]), **kind}])
     group = world.make(
         "k", {"do": "createBindGroup", "layout": layout.name, "entries": [{"binding": 0, "buffer": buffer.name, "size": 16}]}, True
     )
@@ -192,9 +205,9 @@ def storage_of(world, buffer):
     return group
 
 
-def attached_parts(world, begin):
+def attached_parts(world: World, begin: Call) -> list[Cell]:
     """The subresources of the views that a begin attaches, where their mip level and layer are known."""
-    views = [named(world.views, color["view"]) for color in begin["colors"] if color is not None]
+    views = [known(world.views, color["view"]) for color in begin["colors"] if color is not None]
     found = [(view.of[0], view.of[1]["baseMip"], view.of[1].get("baseLayer", 0)) for view in views if hasattr(view, "of")]
     return [part for spot in found for part in spot_parts(spot)]
 

@@ -4,6 +4,10 @@ A bundle has what it draws to in `target`, the parts that it uses in `parts`, ea
 commands name.
 """
 
+from __future__ import annotations
+
+from typing import TYPE_CHECKING, Sequence
+
 from .dispatching import named, new_layout
 from .drawing import draw_call, joins, new_render_pipeline, parts_of_group
 from .grouping import usable
@@ -12,10 +16,16 @@ from .rendering import drawn
 from .resources import COLOR_FORMATS, DEPTH_FORMATS
 from .targets import FOUR_COLORS, MOST_COLORS, Target, begin
 
+if TYPE_CHECKING:
+    from .handed import Call, Cell, Spoil
+    from .world import Thing, World
+
 ASPECTS = ["depth", "stencil"]
 
 
-def render_calls(world, encoder, on, wanted, counts=(0, 1, 1, 1, 2, 2, 3)):
+def render_calls(
+    world: World, encoder: str, on: str, wanted: str | None, counts: Sequence[int] = (0, 1, 1, 1, 2, 2, 3)
+) -> tuple[list[Call], bool]:
     """The calls of a pass from its begin to its end, with one of so many settings with draws, and whether its usage scope clashes.
 
     `wanted` is what is to be wrong with it: `overlap`, `scope`, a key of PAST, or None.
@@ -23,7 +33,7 @@ def render_calls(world, encoder, on, wanted, counts=(0, 1, 1, 1, 2, 2, 3)):
     random = world.random
     target = begin(world, encoder, on)
 
-    def between(is_any):
+    def between(is_any: bool) -> list[Call]:
         return [executes(world, on, target, is_any)] if random.random() < world.bundled else []
 
     calls = drawn(world, on, target, wanted, counts, between)
@@ -32,13 +42,14 @@ def render_calls(world, encoder, on, wanted, counts=(0, 1, 1, 1, 2, 2, 3)):
     return [target.begin, *calls, {"do": "end", "on": on}], target.clashes
 
 
-def bare_calls(world, encoder, on):
+def bare_calls(world: World, encoder: str | None, on: str) -> list[Call]:
     """A pass of no draw, or of draws by a pipeline that asks for nothing, or of bundles alone."""
     random = world.random
     target = begin(world, encoder, on)
     calls = []
     if random.random() < 0.6:
-        layouts = random.choice([[], [new_layout(world, [])]])
+        none: list[Thing] = []
+        layouts = random.choice([none, [new_layout(world, [])]])
         pipeline = new_render_pipeline(world, layouts, target.formats, target.depth, target.samples, target.read_only)
         calls.append({"do": "setPipeline", "on": on, "pipeline": pipeline.name})
         if not pipeline.vertex:
@@ -50,7 +61,7 @@ def bare_calls(world, encoder, on):
     return [target.begin, *calls, {"do": "end", "on": on}]
 
 
-def executes(world, on, target, is_any):
+def executes(world: World, on: str, target: Target, is_any: bool) -> Call:
     """An executeBundles of bundles that agree with a pass: of one as a rule, of several, one of them twice at times, or of none."""
     random, found = world.random, []
     for _ in range(random.choice([0, 1, 1, 1, 1, 2, 2, 3])):
@@ -62,7 +73,7 @@ def executes(world, on, target, is_any):
     return {"do": "executeBundles", "on": on, "bundles": [thing.name for thing in found]}
 
 
-def bundle_for(world, target, is_any):
+def bundle_for(world: World, target: Target, is_any: bool) -> Thing | None:
     """A bundle that agrees with a pass, and with its usage scope, often one that is there; or None."""
     random = world.random
     old = [thing for thing in usable(world, world.bundles) if hasattr(thing, "target") and agrees(thing.target, target)]
@@ -75,23 +86,23 @@ def bundle_for(world, target, is_any):
     return thing if thing.good and joins(target, thing.parts, is_any) else None
 
 
-def agrees(own, target):
+def agrees(own: Target, target: Target) -> bool:
     """A bundle can be executed in a pass: it draws to the same, and does not write what is only read there."""
     return own.signature() == target.signature() and target.read_only <= own.read_only
 
 
-def own_target(world, target, is_any=False):
+def own_target(world: World, target: Target, is_any: bool = False) -> Target:
     """What a bundle draws to that is to agree with a pass. What is only read in the pass is so in the bundle, and at times more is. Where
     the bundle is to agree with the usage scope of the pass, that has what the pass uses."""
     random = world.random
-    formats, depth, samples = target.signature()
-    formats = list(formats) + [None] * random.choice([0, 0, 0, 1, MOST_COLORS - len(formats)])
+    own, depth, samples = target.signature()
+    formats = list(own) + [None] * random.choice([0, 0, 0, 1, MOST_COLORS - len(own)])
     formats = formats[:MOST_COLORS] if formats or depth is not None else formats
     read_only = {aspect for aspect in ASPECTS if aspect in target.read_only or random.random() < 0.12}
     return Target(create_call(formats, depth, samples, read_only), formats, depth, samples, read_only, {} if is_any else dict(target.uses))
 
 
-def any_target(world):
+def any_target(world: World) -> Target:
     """What a bundle may draw to, whatever passes there are."""
     random = world.random
     samples = random.choice([1, 1, 4])
@@ -104,13 +115,13 @@ def any_target(world):
     return Target(create_call(formats, depth, samples, read_only), formats, depth, samples, read_only, {})
 
 
-def create_call(formats, depth, samples, read_only):
+def create_call(formats: Sequence[str | None], depth: str | None, samples: int, read_only: set[str]) -> Call:
     """A createBundleEncoder with all its keys but for its name."""
-    call = {"do": "createBundleEncoder", "colors": formats} | ({} if depth is None else {"depth": depth}) | {"samples": samples}
-    return call | {f"{aspect}ReadOnly": aspect in read_only for aspect in ASPECTS}
+    call = {"do": "createBundleEncoder", "colors": formats, **({} if depth is None else {"depth": depth}), "samples": samples}
+    return {**call, **{f"{aspect}ReadOnly": aspect in read_only for aspect in ASPECTS}}
 
 
-def new_bundle(world, target, is_any=False, wanted=None, spoil=None):
+def new_bundle(world: World, target: Target, is_any: bool = False, wanted: str | None = None, spoil: Spoil | None = None) -> Thing:
     """A bundle of an encoder of its own. Its calls may be spoiled by a function of the world, the encoder's name and the calls from its
     making to its finish. At times something that it names is dropped before, which is refused, or while it is recorded."""
     random, on = world.random, world.new_name("h")
@@ -136,15 +147,15 @@ def new_bundle(world, target, is_any=False, wanted=None, spoil=None):
     return finished(world, encoder, target, body)
 
 
-def bundle_of(world, target, body):
+def bundle_of(world: World, target: Target, body: list[Call]) -> Thing:
     """A bundle of an encoder with some calls, each without what it is on."""
     encoder = world.bundle_encoder(target.begin)
     for call in body:
-        world.add(call | {"on": encoder.name})
+        world.add({**call, "on": encoder.name})
     return finished(world, encoder, target, body)
 
 
-def finished(world, encoder, target, body):
+def finished(world: World, encoder: Thing, target: Target, body: list[Call]) -> Thing:
     """The finish of a bundle encoder, and at times calls on it after that, or a second finish."""
     random = world.random
     thing = world.finish_bundle(encoder)
@@ -153,16 +164,16 @@ def finished(world, encoder, target, body):
     thing.names = {value for call in body for value in call.values() if isinstance(value, str)} - {encoder.name}
     thing.behind = {part[1] for part, _ in thing.parts}
     if random.random() < 0.04:
-        world.add(late_call(world) | {"on": encoder.name})
+        world.add({**late_call(world), "on": encoder.name})
     if random.random() < 0.02:
         world.finish_bundle(encoder)
     return thing
 
 
-def late_call(world):
+def late_call(world: World) -> Call:
     """A call on a bundle encoder, to which nothing is asked after its finish."""
     buffer = world.buffers[0].name
-    calls = [
+    calls: list[Call] = [
         {"do": "pushDebugGroup"},
         {"do": "popDebugGroup"},
         {"do": "draw", "vertices": 1},
@@ -175,25 +186,25 @@ def late_call(world):
     return world.random.choice(calls)
 
 
-def drop_one(world, things):
+def drop_one(world: World, things: list[Thing]) -> None:
     kept = [thing for thing in things if not thing.dropped]
     if kept:
         world.drop(world.random.choice(kept))
 
 
-def parts_of(world, calls):
+def parts_of(world: World, calls: list[Call]) -> list[tuple[Cell, str]]:
     """The parts that the calls on a bundle encoder use, whatever they leave unmet, each with its role in a usage scope."""
     found = []
     for call in calls:
         if call["do"] == "setBindGroup":
             group = named(world.groups, call["group"])
-            found += parts_of_group(group, call.get("offsets", [])) if hasattr(group, "bound") else []
+            found += parts_of_group(group, call.get("offsets", [])) if group is not None and hasattr(group, "bound") else []
         elif "buffer" in call:
             found.append((("b", call["buffer"]), "read"))
     return list(dict.fromkeys(found))
 
 
-def bundle_alone(world, spoil):
+def bundle_alone(world: World, spoil: Spoil) -> None:
     """A bundle that no pass is there for, spoiled half of the time; at times one whose bindings overlap or clash, or whose encoder stays
     open."""
     random = world.random

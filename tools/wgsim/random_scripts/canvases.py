@@ -4,9 +4,18 @@ twice or not at all.
 Few objects and small extents, so that what a present gives back matters under a small budget.
 """
 
+from __future__ import annotations
+
+from typing import TYPE_CHECKING, Callable
+
 from .regions import TEXELS
 from .world import Thing, World
 from .worlds import complete, destroy, drop, last_before_loss, scope, submit, work_done
+
+if TYPE_CHECKING:
+    from random import Random
+
+    from .handed import Act, Call
 
 FORMATS = ["rgba8unorm", "rgba8unorm", "bgra8unorm", "rgba16float"]
 USAGES = [None, None, 16, 17, 18, 19, 20, 23, 3, 2]
@@ -19,14 +28,14 @@ class Canvas:
     """A canvas of the lane: its extent, what it was configured with last, which is nothing at first, and the texture that is current, or
     None."""
 
-    def __init__(self, name, width, height):
+    def __init__(self, name: str, width: int, height: int) -> None:
         self.name = name
         self.extent = [width, height, 1]
-        self.setting = None
-        self.current = None
+        self.setting: tuple[str, int] | None = None
+        self.current: Thing | None = None
 
 
-def canvases(random):
+def canvases(random: Random) -> tuple[int, list[Call]]:
     """A budget, and calls."""
     world = World(random, random.choice([0.02, 0.05, 0.2]))
     if random.random() < 0.5:
@@ -42,7 +51,7 @@ def canvases(random):
     return random.choice(BUDGETS), world.calls
 
 
-def make(world):
+def make(world: World) -> Canvas:
     """A canvas, of a small extent as a rule, at times of one that no texture can have, or just can."""
     random = world.random
     width, height = random.choice([1, 2, 4, 4, 4, 8]), random.choice([1, 2, 4, 4])
@@ -58,19 +67,19 @@ def make(world):
     return canvas
 
 
-def some_canvas(world):
+def some_canvas(world: World) -> Canvas:
     random = world.random
     return random.choice(world.canvases[-3:]) if world.canvases and random.random() < 0.9 else make(world)
 
 
-def ended(canvas):
+def ended(canvas: Canvas) -> None:
     """The current texture of a canvas, if there is one, is destroyed, and current no more."""
     if canvas.current is not None:
         canvas.current.destroyed = True
     canvas.current = None
 
 
-def configure(world, canvas=None):
+def configure(world: World, canvas: Canvas | None = None) -> None:
     """A configureCanvas; what may be left out is, at times."""
     random, canvas = world.random, canvas or some_canvas(world)
     format, usage = random.choice(FORMATS), random.choice(USAGES)
@@ -78,12 +87,12 @@ def configure(world, canvas=None):
         usage = (usage or 16) | STORAGE
     if world.has_fault():
         usage = random.choice([*BAD_USAGES, STORAGE])
-    world.add({"do": "configureCanvas", "canvas": canvas.name, "format": format} | ({} if usage is None else {"usage": usage}))
+    world.add({"do": "configureCanvas", "canvas": canvas.name, "format": format, **({} if usage is None else {"usage": usage})})
     ended(canvas)
     canvas.setting = format, 16 if usage is None else usage
 
 
-def texture(world, canvas=None):
+def texture(world: World, canvas: Canvas | None = None) -> Thing:
     """A currentTexture. Where there is a texture its new name is the one by which it is used from then on, or not. Without a configure the
     script is refused, which is seldom."""
     random, canvas = world.random, canvas or some_canvas(world)
@@ -99,10 +108,10 @@ def texture(world, canvas=None):
     return canvas.current
 
 
-def made(world, canvas, name):
+def made(world: World, canvas: Canvas, name: str) -> Thing:
     """The texture of a canvas as a thing, which no drop may name."""
     format, usage = canvas.setting or ("rgba8unorm", 16)
-    call = {"do": "createTexture", "size": canvas.extent, "usage": usage, "format": format, "dim": "2d", "mips": 1, "samples": 1}
+    call: Call = {"do": "createTexture", "size": canvas.extent, "usage": usage, "format": format, "dim": "2d", "mips": 1, "samples": 1}
     is_good = 0 < usage < 32 and all(1 <= length <= 8192 for length in canvas.extent) and not (format == "bgra8unorm" and usage & STORAGE)
     thing = Thing(name, call, is_good and not world.is_lost)
     thing.made_at = len(world.calls)
@@ -111,13 +120,13 @@ def made(world, canvas, name):
     return thing
 
 
-def present(world, canvas=None):
+def present(world: World, canvas: Canvas | None = None) -> None:
     canvas = canvas or some_canvas(world)
     world.add({"do": "present", "canvas": canvas.name})
     ended(canvas)
 
 
-def frame(world):
+def frame(world: World) -> None:
     """A texture, one or two command buffers that use it, a submit and a present; in another order, or without one of them, at times."""
     random, canvas = world.random, some_canvas(world)
     found = texture(world, canvas)
@@ -125,7 +134,8 @@ def frame(world):
         found = texture(world, canvas)
     work = [recorded(world, found) for _ in range(random.choice([0, 1, 1, 1, 2]))]
     if random.random() < 0.15:
-        random.choice([configure, texture, destroyed, written])(world, canvas)
+        others: list[Callable[[World, Canvas], object]] = [configure, texture, destroyed, written]
+        random.choice(others)(world, canvas)
     order = random.choices(["right", "early", "never", "twice", "unsubmitted"], [14, 3, 2, 1, 1])[0]
     if order == "early":
         present(world, canvas)
@@ -137,18 +147,18 @@ def frame(world):
         present(world, canvas)
 
 
-def destroyed(world, canvas):
+def destroyed(world: World, canvas: Canvas) -> None:
     """The script itself destroys what is current, and that stays so."""
     if canvas.current is not None:
         world.destroy(canvas.current)
 
 
-def written(world, canvas):
+def written(world: World, canvas: Canvas) -> None:
     if canvas.current is not None:
         write(world, canvas.current)
 
 
-def write(world, thing=None):
+def write(world: World, thing: Thing | None = None) -> None:
     """A write of all or of a part of a texture, of a canvas as a rule."""
     random = world.random
     shown = [each for each in world.textures if each.is_shown]
@@ -160,7 +170,7 @@ def write(world, thing=None):
     world.queued(thing.good and thing.call["usage"] & 2 != 0 and not thing.destroyed)
 
 
-def recorded(world, thing):
+def recorded(world: World, thing: Thing) -> Thing:
     """A command buffer that uses a texture: attached, copied to or from, or not at all."""
     random, usage, encoder = world.random, thing.call["usage"], world.encoder()
     for _ in range(random.choice([1, 1, 2])):
@@ -170,7 +180,7 @@ def recorded(world, thing):
     return world.finish(encoder)
 
 
-def attach(world, encoder, thing):
+def attach(world: World, encoder: Thing, thing: Thing) -> None:
     random = world.random
     old = [view for view in world.views if getattr(view, "texture", None) is thing and not view.dropped]
     view = random.choice(old) if old and random.random() < 0.6 else view_of(world, thing)
@@ -182,21 +192,21 @@ def attach(world, encoder, thing):
     encoder.good = encoder.good and view.good and thing.call["usage"] & 16 != 0
 
 
-def view_of(world, thing):
+def view_of(world: World, thing: Thing) -> Thing:
     """A view of a texture, under whatever name of it; one of a second mip level or layer is invalid."""
     random = world.random
-    more = (
+    more: Call = (
         random.choice([{"mips": 2}, {"baseMip": 1}, {"layers": 2}, {"baseLayer": 1}])
         if world.has_fault()
         else random.choice([{}, {}, {"dim": "2d-array"}])
     )
-    view = world.make("v", {"do": "createView", "texture": thing.name} | more, thing.good and set(more) <= {"dim"})
+    view = world.make("v", {"do": "createView", "texture": thing.name, **more}, thing.good and set(more) <= {"dim"})
     view.texture = thing
     world.views.append(view)
     return view
 
 
-def some_bytes(world):
+def some_bytes(world: World) -> Thing:
     """A buffer to copy to and from."""
     old = [
         thing
@@ -206,20 +216,20 @@ def some_bytes(world):
     return old[-1] if old else world.buffer(usage=12, size=1024)
 
 
-def copy_to(world, encoder, thing):
+def copy_to(world: World, encoder: Thing, thing: Thing) -> None:
     copy(world, encoder, thing, "copyBufferToTexture")
 
 
-def copy_from(world, encoder, thing):
+def copy_from(world: World, encoder: Thing, thing: Thing) -> None:
     copy(world, encoder, thing, "copyTextureToBuffer")
 
 
-def copy(world, encoder, thing, word):
+def copy(world: World, encoder: Thing, thing: Thing, word: str) -> None:
     random, buffer = world.random, some_bytes(world)
     width, height, _ = thing.call["size"]
     size = random.choice([[min(width, 8), min(height, 4), 1], [1, 1, 1], [0, 0, 1]])
     world.add({"do": word, "on": encoder.name, "buffer": buffer.name, "bytesPerRow": 256, "texture": thing.name, "size": size})
 
 
-ACTS = [make, configure, texture, present, frame, write, submit, complete, scope, work_done, destroy, drop]
+ACTS: list[Act] = [make, configure, texture, present, frame, write, submit, complete, scope, work_done, destroy, drop]
 WEIGHTS = [2, 2, 3, 3, 12, 2, 1, 3, 1, 1, 1, 1]

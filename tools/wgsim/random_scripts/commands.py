@@ -3,9 +3,19 @@
 Each function adds a call to the world, with the objects that it needs. Where `good` is false one value of it is spoiled.
 """
 
+from __future__ import annotations
+
+from typing import TYPE_CHECKING, Any, Collection
+
 from .querying import resolve_queries
 from .regions import TEXELS, bytes_of, layout, region, spoil_layout, spoil_spot
 from .resources import ASPECTS, COLOR_FORMATS, DEPTH_FORMATS, ONE_SAMPLE_FORMATS
+
+if TYPE_CHECKING:
+    from random import Random
+
+    from .handed import Call
+    from .world import Thing, World
 
 COPY_TO_FORMATS = COLOR_FORMATS + ["depth16unorm", "depth24plus-stencil8", "stencil8"]
 COPY_FROM_FORMATS = COPY_TO_FORMATS + ["depth32float"]
@@ -13,7 +23,7 @@ NAMED = {"depth24plus-stencil8": ["stencil-only"], "stencil8": ["all", "stencil-
 HUGE = [2**53 - 1, 2**53 - 4, 2**32, 2**32 - 4, 2**32 - 1]
 
 
-def with_usage(world, usage, size=None):
+def with_usage(world: World, usage: int, size: int | None = None) -> Thing:
     """A buffer with a usage, at times one that is there already."""
     old = [thing for thing in world.buffers if thing.call["usage"] & usage == usage and (size is None or thing.call["size"] >= size)]
     found = world.some(old) if old and world.random.random() < 0.7 else None
@@ -23,7 +33,7 @@ def with_usage(world, usage, size=None):
     return world.buffer(usage=usage) if size is None else world.buffer(usage=usage, size=size)
 
 
-def textures_for(world, usage, formats, samples=1, **wanted):
+def textures_for(world: World, usage: int, formats: list[str], samples: int = 1, **wanted: Any) -> Thing:
     """A texture with a usage, of one of some formats, at times one that is there already."""
     random = world.random
     old = [
@@ -39,7 +49,7 @@ def textures_for(world, usage, formats, samples=1, **wanted):
     return world.texture(samples=samples, format=format, dim=dim, usage=random.choice([usage, 3]), **wanted)
 
 
-def byte_range(random, buffer):
+def byte_range(random: Random, buffer: Thing) -> tuple[int, int]:
     """A range of a buffer whose ends are multiples of 4; often the last that fits."""
     words = buffer.call["size"] // 4
     first = random.choice([0, 0, random.randint(0, words), words])
@@ -47,7 +57,7 @@ def byte_range(random, buffer):
     return 4 * first, 4 * count
 
 
-def spoil_range(random, call, offset, size, buffer):
+def spoil_range(random: Random, call: Call, offset: str, size: str, buffer: Thing) -> None:
     """An offset or a size that is unaligned, or past the end by one word, or huge."""
     end = buffer.call["size"] // 4 * 4
     fault = random.randrange(6)
@@ -63,12 +73,12 @@ def spoil_range(random, call, offset, size, buffer):
         call[random.choice([offset, size])] = random.choice(HUGE)
 
 
-def lacking(world, usage):
+def lacking(world: World, usage: int) -> Thing:
     """A buffer without a usage, or one that is invalid."""
     return world.buffer(usage=12 & ~usage | 16) if world.random.random() < 0.7 else world.buffer(good=False)
 
 
-def lacking_texture(world, usage, thing):
+def lacking_texture(world: World, usage: int, thing: Thing) -> Thing:
     """A texture like another, without a usage or invalid or with 4 samples."""
     fault = world.random.randrange(3)
     if fault == 0:
@@ -78,12 +88,12 @@ def lacking_texture(world, usage, thing):
     return world.texture(good=False)
 
 
-def write_buffer(world, good, buffer=None):
+def write_buffer(world: World, good: bool, buffer: Thing | None = None) -> None:
     random = world.random
     buffer = buffer or with_usage(world, 8)
     if not good and random.random() < 0.3:
         buffer = lacking(world, 8)
-    call = {"do": "writeBuffer", "buffer": buffer.name}
+    call: Call = {"do": "writeBuffer", "buffer": buffer.name}
     call["offset"], call["size"] = byte_range(random, buffer)
     if not good and random.random() < 0.8:
         spoil_range(random, call, "offset", "size", buffer)
@@ -91,7 +101,7 @@ def write_buffer(world, good, buffer=None):
     world.queued(good)
 
 
-def map_range(random, buffer):
+def map_range(random: Random, buffer: Thing) -> tuple[int, int]:
     """A range that can be mapped: its offset a multiple of 8, its size of 4; often the last that fits."""
     words = buffer.call["size"] // 4
     first = 2 * random.choice([0, 0, random.randint(0, words // 2), words // 2])
@@ -101,13 +111,13 @@ def map_range(random, buffer):
 MAP_FAULTS = ["usage", "usage", "mode", "range", "range", "range", "offset", "again"]
 
 
-def map_async(world, good):
+def map_async(world: World, good: bool) -> None:
     """A map of a buffer, or one that leaves a rule unmet."""
     random, mode = world.random, world.random.choice([1, 2])
     fault = None if good else random.choice(MAP_FAULTS)
     buffer = lacking(world, mode) if fault == "usage" and random.random() < 0.4 else with_usage(world, mode)
     mode = 3 - mode if fault == "usage" else random.choice([0, 3, 4, 2**32 - 1]) if fault == "mode" else mode
-    call = {"mode": mode}
+    call: Call = {"mode": mode}
     call["offset"], call["size"] = map_range(random, buffer)
     if fault == "range":
         spoil_range(random, call, "offset", "size", buffer)
@@ -126,20 +136,20 @@ def map_async(world, good):
     world.map(buffer, good, call)
 
 
-def copied_away(world, buffer):
+def copied_away(world: World, buffer: Thing) -> None:
     """A submit that copies from a buffer, at times nothing."""
     encoder, target = world.encoder(), world.buffer(usage=12)
     size = 4 if min(buffer.call["size"], target.call["size"]) >= 4 and world.random.random() < 0.7 else 0
-    call = {"do": "copyBufferToBuffer", "on": encoder.name, "source": buffer.name, "target": target.name}
-    world.add(call | {"sourceOffset": 0, "targetOffset": 0, "size": size})
+    call: Call = {"do": "copyBufferToBuffer", "on": encoder.name, "source": buffer.name, "target": target.name}
+    world.add({**call, "sourceOffset": 0, "targetOffset": 0, "size": size})
     world.submit([world.finish(encoder)])
 
 
-def clear_buffer(world, encoder, good):
+def clear_buffer(world: World, encoder: Thing, good: bool) -> None:
     random, buffer = world.random, with_usage(world, 8)
     if not good and random.random() < 0.3:
         buffer = lacking(world, 8)
-    call = {"do": "clearBuffer", "on": encoder.name, "buffer": buffer.name}
+    call: Call = {"do": "clearBuffer", "on": encoder.name, "buffer": buffer.name}
     call["offset"], call["size"] = byte_range(random, buffer)
     if not good:
         spoil_range(random, call, "offset", "size", buffer)
@@ -150,7 +160,7 @@ def clear_buffer(world, encoder, good):
     world.add(call)
 
 
-def copy_buffer(world, encoder, good):
+def copy_buffer(world: World, encoder: Thing, good: bool) -> None:
     random = world.random
     source, target = with_usage(world, 4), with_usage(world, 8)
     if source is target and (good or random.random() < 0.8):
@@ -159,7 +169,7 @@ def copy_buffer(world, encoder, good):
         source = target = world.buffer(usage=12)
     elif not good and random.random() < 0.4:
         source, target = random.choice([(lacking(world, 4), target), (source, lacking(world, 8))])
-    call = {"do": "copyBufferToBuffer", "on": encoder.name, "source": source.name, "target": target.name}
+    call: Call = {"do": "copyBufferToBuffer", "on": encoder.name, "source": source.name, "target": target.name}
     call["sourceOffset"], call["size"] = byte_range(random, source)
     call["targetOffset"], room = byte_range(random, target)
     call["size"] = min(call["size"], room)
@@ -169,10 +179,10 @@ def copy_buffer(world, encoder, good):
     world.add(call)
 
 
-def texel_spot(random, info, faults, step):
+def texel_spot(random: Random, info: Call, faults: Collection[str], step: int) -> tuple[Call, int]:
     """Place, aspect and layout of a copy between bytes and a texture, and the bytes of a texel."""
     mip, origin, size = region(random, info)
-    spot = {"mip": mip, "origin": origin, "size": size, "aspect": random.choice(NAMED.get(info["format"], ["all"]))}
+    spot: Call = {"mip": mip, "origin": origin, "size": size, "aspect": random.choice(NAMED.get(info["format"], ["all"]))}
     if "spot" in faults:
         spoil_spot(random, info, spot)
     if "aspect" in faults:
@@ -190,23 +200,23 @@ def texel_spot(random, info, faults, step):
 TEXEL_FAULTS = ["spot"] * 5 + ["layout"] * 4 + ["texture", "texture", "format", "aspect", "offset", "bytes", "bytes", "buffer"]
 
 
-def texel_faults(random, good):
+def texel_faults(random: Random, good: bool) -> list[str]:
     """What is spoiled of such a copy: one thing as a rule, at times two, so that the order of rules shows."""
     return [] if good else random.sample(TEXEL_FAULTS, random.choice([1, 1, 2]))
 
 
-def texel_texture(world, usage, formats, faults):
+def texel_texture(world: World, usage: int, formats: list[str], faults: Collection[str]) -> Thing:
     """The texture of such a copy."""
     texture = textures_for(world, usage, DEPTH_FORMATS if "format" in faults else formats)
     return lacking_texture(world, usage, texture) if "texture" in faults else texture
 
 
-def usual_left_out(random, spot):
+def usual_left_out(random: Random, spot: Call) -> Call:
     usual = {"mip": 0, "origin": [0, 0, 0], "aspect": "all", "offset": 0}
     return {key: value for key, value in spot.items() if usual.get(key) != value or random.random() < 0.4}
 
 
-def write_texture(world, good, texture=None):
+def write_texture(world: World, good: bool, texture: Thing | None = None) -> None:
     random = world.random
     faults = texel_faults(random, good)
     texture = texture or texel_texture(world, 2, COPY_TO_FORMATS, faults)
@@ -214,11 +224,11 @@ def write_texture(world, good, texture=None):
     size = spot["offset"] + bytes_of(spot, texel)
     size = min(size, 2**53 - 101)
     spot["dataSize"] = max(size - 1, 0) if "bytes" in faults or "buffer" in faults else size + random.choice([0, 0, 0, 1, 100])
-    world.add({"do": "writeTexture", "texture": texture.name} | usual_left_out(random, spot))
+    world.add({"do": "writeTexture", "texture": texture.name, **usual_left_out(random, spot)})
     world.queued(good)
 
 
-def copy_texels(world, encoder, good, do):
+def copy_texels(world: World, encoder: Thing, good: bool, do: str) -> None:
     """A copy between a buffer and a texture, either way."""
     random = world.random
     faults = texel_faults(random, good)
@@ -232,10 +242,10 @@ def copy_texels(world, encoder, good, do):
         buffer = lacking(world, buffer_usage)
     else:
         buffer = with_usage(world, buffer_usage, min(size, 2**28))
-    world.add({"do": do, "on": encoder.name, "buffer": buffer.name, "texture": texture.name} | usual_left_out(random, spot))
+    world.add({"do": do, "on": encoder.name, "buffer": buffer.name, "texture": texture.name, **usual_left_out(random, spot)})
 
 
-def twin_of(world, texture, good):
+def twin_of(world: World, texture: Thing, good: bool) -> Thing:
     """A texture that one can be copied to: itself, or one of a format that fits."""
     random, format = world.random, texture.call["format"]
     if random.random() < 0.4 and (texture.call["usage"] & 2 or not good):
@@ -250,7 +260,7 @@ def twin_of(world, texture, good):
     return textures_for(world, 2, [format], samples)
 
 
-def copy_texture(world, encoder, good):
+def copy_texture(world: World, encoder: Thing, good: bool) -> None:
     random = world.random
     samples = 4 if random.random() < 0.1 else 1
     formats = ["rgba8unorm", "rgba8unorm", "depth24plus", "depth24plus-stencil8"] if samples == 4 else COLOR_FORMATS + DEPTH_FORMATS
@@ -262,7 +272,7 @@ def copy_texture(world, encoder, good):
     other, target_origin, room = region(random, target.call)
     if not (source.call["format"] in DEPTH_FORMATS or samples == 4) or good and random.random() < 0.5:
         size = [min(one, two) for one, two in zip(size, room)]
-    spots = [{"mip": mip, "origin": origin, "size": list(size)}, {"mip": other, "origin": target_origin, "size": list(size)}]
+    spots: list[Call] = [{"mip": mip, "origin": origin, "size": list(size)}, {"mip": other, "origin": target_origin, "size": list(size)}]
     if source is target and random.random() < 0.6 and source.call["dim"] == "2d":
         spots[1].update(mip=mip, origin=[*origin[:2], origin[2] + size[2] - (0 if good else 1) if random.random() < 0.8 else 0])
     if not good and random.random() < 0.6:
@@ -272,8 +282,8 @@ def copy_texture(world, encoder, good):
     world.add(told_copy(random, encoder, source, target, spots, size))
 
 
-def told_copy(random, encoder, source, target, spots, size):
-    call = {"do": "copyTextureToTexture", "on": encoder.name, "source": source.name, "target": target.name, "size": size}
+def told_copy(random: Random, encoder: Thing, source: Thing, target: Thing, spots: list[Call], size: list[int]) -> Call:
+    call: Call = {"do": "copyTextureToTexture", "on": encoder.name, "source": source.name, "target": target.name, "size": size}
     for key, spot in zip(("source", "target"), spots):
         for part, usual in (("mip", 0), ("origin", [0, 0, 0])):
             if spot[part] != usual or random.random() < 0.4:
@@ -281,7 +291,7 @@ def told_copy(random, encoder, source, target, spots, size):
     return call
 
 
-def debug_group(world, encoder, good):
+def debug_group(world: World, encoder: Thing, good: bool) -> None:
     if encoder.groups > 0 and world.random.random() < 0.5 or not good:
         world.add({"do": "popDebugGroup", "on": encoder.name})
         encoder.groups = max(encoder.groups - 1, 0)
@@ -290,11 +300,11 @@ def debug_group(world, encoder, good):
         encoder.groups += 1
 
 
-def to_texture(world, encoder, good):
+def to_texture(world: World, encoder: Thing, good: bool) -> None:
     copy_texels(world, encoder, good, "copyBufferToTexture")
 
 
-def to_buffer(world, encoder, good):
+def to_buffer(world: World, encoder: Thing, good: bool) -> None:
     copy_texels(world, encoder, good, "copyTextureToBuffer")
 
 
@@ -302,7 +312,7 @@ COMMANDS = [copy_buffer, to_texture, to_buffer, copy_texture, clear_buffer, debu
 WEIGHTS = [4, 5, 5, 7, 3, 2, 3]
 
 
-def command(world, encoder, good):
+def command(world: World, encoder: Thing, good: bool) -> None:
     """Some command on an encoder."""
     world.random.choices(COMMANDS, WEIGHTS)[0](world, encoder, good)
     encoder.commands += 1

@@ -4,6 +4,10 @@ A render pipeline has its layouts in `layouts`, its vertex buffers in `vertex`, 
 it writes in `writes`. What is set at a slot is a triple of the name of a buffer, the offset and the size of the range.
 """
 
+from __future__ import annotations
+
+from typing import TYPE_CHECKING, Iterable, Sequence
+
 from .bindings import is_written, told, used_by
 from .bound import TEXTURE_BINDING
 from .deriving import is_derived, naming, render_of
@@ -13,6 +17,13 @@ from .dispatching import (
 from .grouping import pipeline_layout_of, usable
 from .limiting import of as limit
 from .targets import ASPECTS_OF, signature
+
+if TYPE_CHECKING:
+    from random import Random
+
+    from .handed import Call, Cell, Entry, Now, Setting
+    from .targets import Target
+    from .world import Thing, World
 
 INDEX, VERTEX = 16, 32
 GREATEST_32 = 2**32 - 1
@@ -29,16 +40,16 @@ COLOR_SAMPLES = {"r32uint": "uint"}
 USUAL = {"step": "vertex", "iface": [], "buffers": [], "targets": [], "samples": 1, "depthWrite": False, "stencilWrite": False}
 
 
-def without_usual(random, call):
+def without_usual(random: Random, call: Call) -> Call:
     """A call or an object of it, from which what has its usual value is left out at times."""
     return {key: value for key, value in call.items() if USUAL.get(key, ...) != value or random.random() < 0.3}
 
 
-def end_of(attribute):
+def end_of(attribute: Call) -> int:
     return attribute["offset"] + ATTRIBUTE_BYTES[attribute["format"]]
 
 
-def some_attribute(random, room, location):
+def some_attribute(random: Random, room: int, location: int) -> Call | None:
     """An attribute that ends within so many bytes, often just there, or None where no format does."""
     formats = [format for format, length in ATTRIBUTE_BYTES.items() if length <= room]
     if not formats:
@@ -49,7 +60,7 @@ def some_attribute(random, room, location):
     return {"format": format, "offset": random.choice([0, 0, last, step * random.randint(0, last // step)]), "location": location}
 
 
-def some_vertex_buffers(random):
+def some_vertex_buffers(random: Random) -> list[Call]:
     """The vertex buffers of a pipeline: strides of 0 and of the most too, and at times as many buffers or attributes as there may be."""
     count = random.choice([0, 0, 1, 1, 1, 2, 2, 3, MOST_BUFFERS])
     most_attributes, most_stride = limit("maxVertexAttributes"), limit("maxVertexBufferArrayStride")
@@ -66,7 +77,7 @@ def some_vertex_buffers(random):
     return found
 
 
-def some_render_pipeline(world, target, is_new=False):
+def some_render_pipeline(world: World, target: Target, is_new: bool = False) -> Thing:
     """A pipeline that agrees with a pass, often one that is there."""
     random, found = world.random, []
     for thing in usable(world, world.render_pipelines):
@@ -77,18 +88,21 @@ def some_render_pipeline(world, target, is_new=False):
     return new_render_pipeline(world, some_layouts(world), target.formats, target.depth, target.samples, target.read_only)
 
 
-def some_layouts(world):
+def some_layouts(world: World) -> list[Thing]:
     """The layouts of a pipeline, with groups for them: those of another pipeline, or new ones, or none."""
     random = world.random
     kind = random.random()
     old = [thing for thing in usable(world, world.pipelines + world.render_pipelines) if getattr(thing, "layouts", None)]
-    old = [thing for thing in old if usable(world, thing.layouts) == thing.layouts]
+    old = [thing for thing in old if usable(world, thing.own_layouts()) == thing.layouts]
     if kind < 0.3:
-        return random.choice([[], [], [new_layout(world, [])]])
-    return random.choice(old[-5:]).layouts if kind < 0.7 and old else kit_layouts(world)
+        none: list[Thing] = []
+        return random.choice([none, none, [new_layout(world, [])]])
+    return random.choice(old[-5:]).own_layouts() if kind < 0.7 and old else kit_layouts(world)
 
 
-def new_render_pipeline(world, layouts, formats, depth, samples, read_only):
+def new_render_pipeline(
+    world: World, layouts: list[Thing], formats: Sequence[str | None], depth: str | None, samples: int, read_only: set[str]
+) -> Thing:
     """A good pipeline that draws to some formats; nulls at the end of them are not always the same."""
     random = world.random
     derives = random.random() < 0.3 or any(map(is_derived, layouts))
@@ -96,18 +110,18 @@ def new_render_pipeline(world, layouts, formats, depth, samples, read_only):
     targets = list(signature(formats, depth, samples)[0])
     targets += [None] * random.choice([0, 0, 0, len(formats) - len(targets), 8 - len(targets)])
     buffers, writes = some_vertex_buffers(random), set()
-    call = {"targets": targets, "samples": samples}
+    call: Call = {"targets": targets, "samples": samples}
     if depth is not None:
         writes = {aspect for aspect in ASPECTS_OF[depth] if aspect not in read_only and random.random() < 0.6}
         call["depth"] = without_usual(random, {"format": depth, "depthWrite": "depth" in writes, "stencilWrite": "stencil" in writes})
-    if derives:
+    if layout is None:
         thing = with_groups(
             world, render_of(world, naming(random, [one.entries for one in layouts], True), buffers=told_buffers(random, buffers), **call)
         )
     else:
         thing = add_render_pipeline(
             world,
-            {"do": "createRenderPipeline", "layout": layout.name, "iface": some_iface(random, layouts), "buffers": buffers} | call,
+            {"do": "createRenderPipeline", "layout": layout.name, "iface": some_iface(random, layouts), "buffers": buffers, **call},
             True,
         )
         thing.layouts, thing.lists, thing.derives = layouts, [one.entries for one in layouts], False
@@ -116,29 +130,29 @@ def new_render_pipeline(world, layouts, formats, depth, samples, read_only):
     return thing
 
 
-def told_buffers(random, buffers):
+def told_buffers(random: Random, buffers: list[Call]) -> list[Call]:
     return [without_usual(random, one) for one in buffers]
 
 
-def add_render_pipeline(world, call, good):
+def add_render_pipeline(world: World, call: Call, good: bool) -> Thing:
     """A pipeline of a call that has all its keys, some of which are left out."""
-    thing = world.make("x", without_usual(world.random, call | {"buffers": told_buffers(world.random, call["buffers"])}), good)
+    thing = world.make("x", without_usual(world.random, {**call, "buffers": told_buffers(world.random, call["buffers"])}), good)
     thing.layouts = None
     world.render_pipelines.append(thing)
     return thing
 
 
-def some_iface(random, layouts):
+def some_iface(random: Random, layouts: list[Thing]) -> list[Entry]:
     """Some of what layouts have, each for a stage that sees it."""
     seen = [
         (stage, group, entry) for group, one in enumerate(layouts) for entry in one.entries for stage, bit in STAGES.items()
         if entry["visibility"] & bit
     ]
     chosen = random.sample(seen, min(len(seen), random.choice([0, 1, 2, 3, 3])))
-    return [told(random, used_by(random, group, entry) | {"stage": stage}) for stage, group, entry in chosen]
+    return [told(random, {**used_by(random, group, entry), "stage": stage}) for stage, group, entry in chosen]
 
 
-def parts_of_group(group, offsets):
+def parts_of_group(group: Thing, offsets: list[int]) -> list[tuple[Cell, str]]:
     """The parts that a group uses, each with its role in a usage scope."""
     found = []
     for asked, cells in moved(group, offsets):
@@ -147,7 +161,7 @@ def parts_of_group(group, offsets):
     return found
 
 
-def joins(target, parts, is_any):
+def joins(target: Target, parts: Iterable[tuple[Cell, str]], is_any: bool) -> bool:
     """Adds parts to the scope of a pass, where they agree with it, or else where any will do: then the pass clashes."""
     uses = dict(target.uses)
     for part, role in parts:
@@ -159,7 +173,7 @@ def joins(target, parts, is_any):
     return True
 
 
-def some_range(world, target, bit, step, least, is_any):
+def some_range(world: World, target: Target, bit: int, step: int, least: int, is_any: bool) -> Setting | None:
     """A range of a buffer with a usage, of so many bytes at least where there is one: its rest, all, a part, or nothing."""
     random = world.random
     buffers = [thing for thing in buffers_in(world, bit) if is_any or target.uses.get(("b", thing.name), "read") == "read"]
@@ -181,32 +195,32 @@ def some_range(world, target, bit, step, least, is_any):
     return thing.name, offset, length
 
 
-def range_keys(random, offset, length):
+def range_keys(random: Random, offset: int, length: int | None) -> Call:
     found = {} if offset == 0 and random.random() < 0.6 else {"offset": offset}
-    return found | ({} if length is None else {"size": length})
+    return {**found, **({} if length is None else {"size": length})}
 
 
-def size_set(world, setting):
+def size_set(world: World, setting: Setting) -> int:
     """The size of the range that is set."""
     name, offset, length = setting[:3]
     return size_of(world, name) - offset if length is None else length
 
 
-def vertex_call(random, on, slot, setting):
-    return {"do": "setVertexBuffer", "on": on, "slot": slot, "buffer": setting[0]} | range_keys(random, *setting[1:3])
+def vertex_call(random: Random, on: str, slot: int, setting: Setting) -> Call:
+    return {"do": "setVertexBuffer", "on": on, "slot": slot, "buffer": setting[0], **range_keys(random, *setting[1:3])}
 
 
-def index_call(random, on, setting):
-    return {"do": "setIndexBuffer", "on": on, "buffer": setting[0], "format": setting[3]} | range_keys(random, *setting[1:3])
+def index_call(random: Random, on: str, setting: Setting) -> Call:
+    return {"do": "setIndexBuffer", "on": on, "buffer": setting[0], "format": setting[3], **range_keys(random, *setting[1:3])}
 
 
-def some_index_range(world, target, is_any):
+def some_index_range(world: World, target: Target, is_any: bool) -> Setting | None:
     format = world.random.choice(["uint16", "uint32"])
     found = some_range(world, target, INDEX, INDEX_BYTES[format], world.random.choice([0, 4, 12, 16]), is_any)
     return None if found is None else (*found, format)
 
 
-def most_elements(world, pipeline, now, step):
+def most_elements(world: World, pipeline: Thing, now: Now, step: str) -> int | None:
     """How many elements a draw may ask of the vertex buffers of a step, or None where it may ask any."""
     found = []
     for slot, one in enumerate(pipeline.vertex):
@@ -220,7 +234,7 @@ def most_elements(world, pipeline, now, step):
     return min(found, default=None)
 
 
-def first_and_count(random, most, is_past):
+def first_and_count(random: Random, most: int | None, is_past: bool) -> tuple[int, int]:
     """Two numbers whose sum is often the most that may be, or is more by one where it is to be past that."""
     if is_past and most is not None:
         number = most + random.choice([1, 1, 1, 2])
@@ -232,7 +246,7 @@ def first_and_count(random, most, is_past):
     return first, min(number - first, GREATEST_32)
 
 
-def draw_call(world, on, word, pipeline, now, past=None):
+def draw_call(world: World, on: str, word: str, pipeline: Thing, now: Now, past: str | None = None) -> Call:
     """A draw of what is set, indexed or not. It asks for one element more than there is, if wanted, by `vertices`, `instances` or
     `indices`."""
     random = world.random
@@ -244,12 +258,12 @@ def draw_call(world, on, word, pipeline, now, past=None):
     else:
         first, count = first_and_count(random, most_elements(world, pipeline, now, "vertex"), past == "vertices")
         call = {"do": "draw", "on": on, "vertices": count, "firstVertex": first}
-    call |= {"instances": instances[1], "firstInstance": instances[0]}
+    call.update({"instances": instances[1], "firstInstance": instances[0]})
     usual = {"firstIndex": 0, "firstVertex": 0, "firstInstance": 0, "instances": 1}
     return {key: value for key, value in call.items() if usual.get(key, ...) != value or random.random() < 0.2}
 
 
-def counts_for(world, target, word, is_any):
+def counts_for(world: World, target: Target, word: str, is_any: bool) -> Thing | None:
     """The buffer of an indirect draw, or None."""
     found = [thing for thing in buffers_in(world, INDIRECT) if thing.call["size"] >= INDIRECT_BYTES[word]]
     thing = pick(world, [thing for thing in found if is_any or target.uses.get(("b", thing.name), "read") == "read"])
@@ -258,13 +272,13 @@ def counts_for(world, target, word, is_any):
     return thing
 
 
-def indirect_call(world, on, word, thing):
+def indirect_call(world: World, on: str, word: str, thing: Thing) -> Call:
     """An indirect draw; at times its numbers are the last of the buffer."""
     random, last = world.random, (thing.call["size"] - INDIRECT_BYTES[word]) // 4 * 4
     return {"do": word, "on": on, "buffer": thing.name, "offset": random.choice([0, last, 4 * random.randint(0, last // 4)])}
 
 
-def sampled_attachment(world, target, is_any):
+def sampled_attachment(world: World, target: Target, is_any: bool) -> Thing | None:
     """A group that samples what a pass attaches: an aspect of the depth that is read-only, which may stand in one scope with it, or
     anything where any will do; or None where there is nothing."""
     random, parts = world.random, [
@@ -278,7 +292,7 @@ def sampled_attachment(world, target, is_any):
     texture = views[name]
     sample = {"depth": "depth", "stencil": "uint"}.get(aspect) or COLOR_SAMPLES.get(texture.call["format"], "unfilterable-float")
     kind = {"kind": "texture", "sample": sample, "dim": "2d", "multi": texture.call["samples"] == 4}
-    layout = new_layout(world, [{"binding": random.randrange(3), "visibility": random.choice([2, 3, 7, 0])} | kind])
+    layout = new_layout(world, [{"binding": random.randrange(3), "visibility": random.choice([2, 3, 7, 0]), **kind}])
     spot = {
         "dim": "2d",
         "aspect": "all" if aspect == "color" else f"{aspect}-only",
@@ -294,7 +308,9 @@ def sampled_attachment(world, target, is_any):
     return group
 
 
-def stray_settings(world, on, target, is_any, free_slots, free_indexes, now):
+def stray_settings(
+    world: World, on: str, target: Target, is_any: bool, free_slots: list[int], free_indexes: list[int], now: Now
+) -> list[Call]:
     """Settings that no draw asks for: at other slots and indexes, an index buffer of a draw without indices, a pair of debug groups.
     All of them are in the usage scope."""
     random, calls = world.random, []

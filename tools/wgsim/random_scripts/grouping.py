@@ -2,9 +2,13 @@
 got of pipelines, with the buffers, textures and views that they need; with drops, destroys, writes, submits, error scopes and loss among
 them."""
 
+from __future__ import annotations
+
+from typing import TYPE_CHECKING, Iterable
+
 from .bindings import (
-    COMPUTE, COUNTED, GREATEST_32, KINDS, SAMPLERS, border_of_dynamic, border_of_stage, counted, dynamic_entries, of_sort, other_value,
-    parts_of, seen_entries, some_entries, some_kind, spoil_entries, told, used_by, with_binding,
+    COMPUTE, COUNTED, GREATEST_32, KINDS, SAMPLERS, border_of_dynamic, border_of_stage, counted, dynamic_entries, most_dynamic, of_sort,
+    other_value, parts_of, seen_entries, some_entries, some_kind, spoil_entries, told, used_by, with_binding,
 )
 from .bound import bound_entries, faults_for, sampler
 from .commands import clear_buffer, copy_buffer, write_buffer
@@ -13,10 +17,16 @@ from .limiting import of as limit
 from .world import World
 from .worlds import complete, last_before_loss, maps, scope
 
+if TYPE_CHECKING:
+    from random import Random
+
+    from .handed import Act, Call, Entry, Faults
+    from .world import Thing
+
 BUDGETS = [2**53 - 1] * 18 + [2_000_000, 40_000, 2_000]
 
 
-def groups(random):
+def groups(random: Random) -> tuple[int, list[Call]]:
     """A budget, and calls."""
     world = World(random, random.choice([0.1, 0.4, 0.5]))
     count = random.randint(15, 70)
@@ -30,7 +40,7 @@ def groups(random):
     return random.choice(BUDGETS), world.calls
 
 
-def layout_of(world, entries, good):
+def layout_of(world: World, entries: list[Entry], good: bool) -> Thing:
     """A bind group layout of some entries."""
     call = {"do": "createBindGroupLayout", "entries": [told(world.random, entry) for entry in entries]}
     thing = world.make("g", call, good)
@@ -39,7 +49,7 @@ def layout_of(world, entries, good):
     return thing
 
 
-def group_layout(world):
+def group_layout(world: World) -> Thing:
     """A layout, mostly at a border, be it within or just past."""
     random, good = world.random, not world.has_fault()
     if not good:
@@ -50,12 +60,12 @@ def group_layout(world):
     return layout_of(world, entries, good)
 
 
-def usable(world, things, most=None):
+def usable(world: World, things: Iterable[Thing], most: int | None = None) -> list[Thing]:
     """Good objects that were not dropped; of layouts those that have so many entries at most."""
     return [thing for thing in things if thing.good and not thing.dropped and (most is None or len(thing.entries) <= most)]
 
 
-def some_layout(world, most):
+def some_layout(world: World, most: int) -> Thing:
     """A layout of a few entries, which is there or new."""
     old = usable(world, world.group_layouts, most)
     if old and world.random.random() < 0.6:
@@ -63,7 +73,7 @@ def some_layout(world, most):
     return layout_of(world, some_entries(world.random, most), True)
 
 
-def bad_layout(world):
+def bad_layout(world: World) -> Thing:
     """A layout that is dropped or invalid."""
     random = world.random
     old = [thing for thing in world.group_layouts if not thing.good or thing.dropped]
@@ -78,7 +88,7 @@ def bad_layout(world):
     return thing
 
 
-def shared_limit(random, more):
+def shared_limit(random: Random, more: int) -> list[list[Entry]]:
     """Lists of entries that together have just as many of one sort as there may be, or so many more."""
     sort, stage = random.choice(list(COUNTED)), random.choice([1, 2, 4])
     kinds, most, dynamic = counted(sort)
@@ -87,7 +97,7 @@ def shared_limit(random, more):
     return parts_of(random, seen_entries(random, sort, stage, most + more))
 
 
-def twice_limit(random, more):
+def twice_limit(random: Random, more: int) -> tuple[list[Entry], list[Entry]]:
     """The entries of one layout that stands there twice; an odd one more in a second."""
     sort, stage = random.choice(list(COUNTED)), random.choice([1, 2, 4])
     kinds, most, dynamic = counted(sort)
@@ -96,7 +106,7 @@ def twice_limit(random, more):
     return seen_entries(random, sort, stage, most // 2), seen_entries(random, sort, stage, more)
 
 
-def past_several(world):
+def past_several(world: World) -> list[Thing]:
     """Layouts that leave several rules unmet: what a stage sees, what is dynamic, and at times their number or one of them."""
     random = world.random
     sort = random.choice(["uniform buffer", "storage buffer"])
@@ -107,7 +117,7 @@ def past_several(world):
         ),
         2,
     )
-    lists += parts_of(random, dynamic_entries(random, sort, counted(sort)[2] + 1), 2)
+    lists += parts_of(random, dynamic_entries(random, sort, most_dynamic(sort) + 1), 2)
     random.shuffle(lists)
     layouts = [layout_of(world, part, True) for part in lists]
     change = random.randrange(4)
@@ -118,7 +128,7 @@ def past_several(world):
     return layouts
 
 
-def layouts_for(world, good):
+def layouts_for(world: World, good: bool) -> list[Thing]:
     """Layouts of a pipeline layout."""
     random, more = world.random, 0 if good else 1
     if not good and random.random() < 0.12:
@@ -147,13 +157,13 @@ def layouts_for(world, good):
     return layouts
 
 
-def pipeline_layout(world):
+def pipeline_layout(world: World) -> Thing:
     good = not world.has_fault()
     layouts = layouts_for(world, good)
     return pipeline_layout_of(world, layouts, good)
 
 
-def pipeline_layout_of(world, layouts, good):
+def pipeline_layout_of(world: World, layouts: list[Thing], good: bool) -> Thing:
     is_good = good and all(layout.good and not layout.dropped for layout in layouts)
     thing = world.make("l", {"do": "createPipelineLayout", "layouts": [layout.name for layout in layouts]}, is_good)
     thing.layouts = layouts
@@ -161,7 +171,7 @@ def pipeline_layout_of(world, layouts, good):
     return thing
 
 
-def exclusive(world):
+def exclusive(world: World) -> None:
     """A pipeline layout of layouts of which one is exclusive to a pipeline."""
     random, own = world.random, usable(world, world.derived_layouts)
     if own:
@@ -170,7 +180,7 @@ def exclusive(world):
         pipeline_layout_of(world, layouts, False)
 
 
-def bind_group(world):
+def bind_group(world: World) -> Thing:
     """A bind group of a layout of a few entries, or at times of many."""
     random, good = world.random, not world.has_fault()
     layout = some_layout(world, 20 if random.random() < 0.1 else 3)
@@ -185,7 +195,7 @@ def bind_group(world):
     return group_of(world, layout, faults)
 
 
-def group_of(world, layout, faults):
+def group_of(world: World, layout: Thing, faults: Faults) -> Thing:
     entries = bound_entries(world, layout.entries, faults)
     thing = world.make(
         "k", {"do": "createBindGroup", "layout": layout.name, "entries": entries}, not faults and layout.good and not layout.dropped
@@ -194,13 +204,13 @@ def group_of(world, layout, faults):
     return thing
 
 
-def compute_pipeline(world):
+def compute_pipeline(world: World) -> Thing:
     """A pipeline whose interface is some of what its layout has, or has one entry that the layout does not offer."""
     random, good = world.random, not world.has_fault()
     layout = some_pipeline_layout(world, not good and random.random() < 0.15)
     if not good and random.random() < 0.05:
         world.drop(layout)
-    places = [(group, entry) for group, one in enumerate(layout.layouts) for entry in one.entries]
+    places = [(group, entry) for group, one in enumerate(layout.own_layouts()) for entry in one.entries]
     seen = [place for place in places if place[1]["visibility"] & COMPUTE]
     iface = [used_by(random, *place) for place in random.sample(seen, min(len(seen), random.choice([0, 1, 2, 3, 3, 20])))]
     if not good:
@@ -209,12 +219,12 @@ def compute_pipeline(world):
     if not iface and random.random() < 0.7:
         del call["iface"]
     thing = world.make("p", call, good and layout.good and not layout.dropped)
-    thing.lists, thing.derives = [one.entries for one in layout.layouts], False
+    thing.lists, thing.derives = [one.entries for one in layout.own_layouts()], False
     world.pipelines.append(thing)
     return thing
 
 
-def some_pipeline_layout(world, is_bad):
+def some_pipeline_layout(world: World, is_bad: bool) -> Thing:
     random = world.random
     if is_bad and world.pipeline_layouts:
         return random.choice(world.pipeline_layouts)
@@ -227,7 +237,7 @@ def some_pipeline_layout(world, is_bad):
     return pipeline_layout_of(world, layouts[:4], True)
 
 
-def not_offered(random, layout, places, seen):
+def not_offered(random: Random, layout: Thing, places: list[tuple[int, Entry]], seen: list[tuple[int, Entry]]) -> Entry:
     """An entry of an interface that the layout does not offer: no such group or binding, not seen, or of another kind."""
     fault = random.randrange(10)
     hidden = [place for place in places if place not in seen]
@@ -237,10 +247,11 @@ def not_offered(random, layout, places, seen):
             if not seen
             else {key: value for key, value in random.choice(seen)[1].items() if key not in ("binding", "visibility")}
         )
-        return {"group": random.choice([len(layout.layouts), len(layout.layouts), 4, GREATEST_32]), "binding": 0} | kind
+        count = len(layout.own_layouts())
+        return {"group": random.choice([count, count, 4, GREATEST_32]), "binding": 0, **kind}
     if fault == 1 or not hidden + seen:
         group, entry = random.choice(places)
-        return used_by(random, group, entry) | {"binding": random.choice([17, 998, GREATEST_32])}
+        return {**used_by(random, group, entry), "binding": random.choice([17, 998, GREATEST_32])}
     if fault in (2, 3) and hidden:
         return used_by(random, *random.choice(hidden))
     group, entry = random.choice(seen or places)
@@ -248,20 +259,20 @@ def not_offered(random, layout, places, seen):
     if fault in (4, 5):
         twin = {"storage": "read-only-storage", "read-only-storage": "storage"}.get(used["kind"])
         word = twin if twin and random.random() < 0.5 else other_value(random, "kind", used["kind"])
-        return {key: used[key] for key in ("group", "binding")} | some_kind(random, word)
+        return {**{key: used[key] for key in ("group", "binding")}, **some_kind(random, word)}
     keys = [key for key in ("type", "sample", "dim", "multi", "access", "format") if key in used]
     if not keys:
-        return {key: used[key] for key in ("group", "binding")} | of_sort(random, "texture")
+        return {**{key: used[key] for key in ("group", "binding")}, **of_sort(random, "texture")}
     key = random.choice(keys)
     used[key] = other_value(random, key, used[key])
     return used
 
 
-def any_sampler(world):
+def any_sampler(world: World) -> None:
     sampler(world, world.random.choice(SAMPLERS))
 
 
-def drop(world):
+def drop(world: World) -> None:
     """Of anything, mostly of what was not dropped, and more often of what holds something else."""
     random = world.random
     kept = [thing for thing in world.everything() if not thing.dropped or random.random() < 0.03]
@@ -271,7 +282,7 @@ def drop(world):
         world.drop(random.choice(things))
 
 
-def drop_all(world):
+def drop_all(world: World) -> None:
     """All that is there, in some order; so each buffer and texture is given back at some time."""
     things = [thing for thing in world.everything() if not thing.dropped]
     world.random.shuffle(things)
@@ -281,7 +292,7 @@ def drop_all(world):
             complete(world)
 
 
-def chain(world):
+def chain(world: World) -> None:
     """A bind group whose views, textures and buffers are dropped while it holds them, and then itself."""
     random = world.random
     before = len(world.everything())
@@ -299,17 +310,17 @@ def chain(world):
         world.drop(made)
 
 
-def destroy(world):
+def destroy(world: World) -> None:
     things = [thing for thing in world.resources() if not thing.destroyed]
     if things:
         world.destroy(world.random.choice(things[-8:]))
 
 
-def write(world):
+def write(world: World) -> None:
     write_buffer(world, not world.has_fault())
 
 
-def work(world):
+def work(world: World) -> None:
     """An encoder of a command, which is submitted as a rule."""
     random = world.random
     encoder = world.encoder()
@@ -320,7 +331,7 @@ def work(world):
             world.submit([command_buffer])
 
 
-ACTS = [
+ACTS: list[Act] = [
     group_layout, pipeline_layout, bind_group, compute_pipeline, any_pipeline, any_layout, exclusive, any_sampler, chain, drop, destroy,
     write, work, complete, maps, scope,
 ]

@@ -1,24 +1,31 @@
 """Values written as JSON in many forms: with spaces, keys in any order, escapes, and pieces of text that are no JSON."""
 
+from __future__ import annotations
+
+from typing import TYPE_CHECKING, Any
+
+if TYPE_CHECKING:
+    from random import Random
+
 
 class Raw:
     """A piece of text that is written as it is."""
 
-    def __init__(self, text):
+    def __init__(self, text: str) -> None:
         self.text = text
 
 
 class Pairs:
     """An object given as pairs, so that a key may be repeated."""
 
-    def __init__(self, pairs):
+    def __init__(self, pairs: list[tuple[str, Any]]) -> None:
         self.pairs = pairs
 
 
 SPACES = ["", "", "", "", " ", "\n", "\t", "\r\n", "  "]
 
 
-def text_of(value, random, plain=False):
+def text_of(value: Any, random: Random, plain: bool = False) -> str:
     """The text of a value. A plain one has no spaces, and its keys stand in the order of the dict."""
     if isinstance(value, Raw):
         return value.text
@@ -38,7 +45,7 @@ def text_of(value, random, plain=False):
     return "{" + space + (space + ",").join(members) + "}"
 
 
-def string_of(text, random, plain):
+def string_of(text: str, random: Random, plain: bool) -> str:
     letters = []
     for letter in text:
         if letter in '"\\' or letter < " " or (not plain and random.random() < 0.01):
@@ -48,7 +55,7 @@ def string_of(text, random, plain):
     return '"' + "".join(letters) + '"'
 
 
-def units_of(letter):
+def units_of(letter: str) -> list[int]:
     """The 16-bit units of a character."""
     data = letter.encode("utf-16-be", "surrogatepass")
     return [int.from_bytes(data[at:at + 2], "big") for at in range(0, len(data), 2)]

@@ -5,17 +5,27 @@ The calls of a lane are made one after another as if it were alone. What it does
 whole phase is made, since in a run either may come first.
 """
 
+from __future__ import annotations
+
+from typing import TYPE_CHECKING, Any
+
 from . import canvases, grouping, holding, passing, worlds
 from .dispatching import kit, pool
 from .querying import resolve_queries
 from .targets import target_pool
 from .world import World
 
+if TYPE_CHECKING:
+    from random import Random
+
+    from .handed import Act, Call, Given, States
+    from .world import Thing
+
 LISTS = [
     "buffers", "textures", "views", "samplers", "group_layouts", "derived_layouts", "pipeline_layouts", "groups", "pipelines",
     "render_pipelines", "query_sets", "command_buffers", "bundles",
 ]
-ACTS = {
+ACTS: dict[str, tuple[list[Act], list[int]]] = {
     "mixed": (worlds.ACTS, worlds.ACT_WEIGHTS),
     "holders": (holding.ACTS, holding.WEIGHTS),
     "groups": (grouping.ACTS, grouping.WEIGHTS),
@@ -31,10 +41,10 @@ class Shared(World):
     """What all lanes of the next phase see. Its encoders and canvases are the lane's own; the encoders of earlier phases can be dropped,
     and no more."""
 
-    def __init__(self, random, fault, sort):
+    def __init__(self, random: Random, fault: float, sort: str) -> None:
         super().__init__(random, fault)
         self.sort = sort
-        self.old_encoders = []
+        self.old_encoders: list[Thing] = []
         self.budget = (
             random.choice(holding.BUDGETS)
             if sort == "holders"
@@ -45,11 +55,11 @@ class Shared(World):
         self.renders = 0.85 if sort == "rendering" else 0.15
         self.bundled = random.choice([0.05, 0.4])
 
-    def everything(self):
+    def everything(self) -> list[Thing]:
         return super().everything() + self.old_encoders
 
 
-def lanes(random):
+def lanes(random: Random) -> tuple[int, list[Any]]:
     """A budget, and phases of not too many calls."""
     while True:
         budget, phases = with_shared(random)
@@ -57,12 +67,12 @@ def lanes(random):
             return budget, phases
 
 
-def with_shared(random):
+def with_shared(random: Random) -> tuple[int, list[Any]]:
     """A budget, and phases: mostly a first one that makes what later ones share."""
     sort = random.choices(SORTS, WEIGHTS)[0]
     world = Shared(random, random.choice([0.0, 0.05, 0.2]), sort)
     losing = random.random() < 0.1
-    phases = [[first_lane(world)]] if random.random() < 0.9 else []
+    phases: list[Any] = [[first_lane(world)]] if random.random() < 0.9 else []
     end_of_phase(world, {}, [])
     for _ in range(random.choice([1, 1, 2, 2, 3, 4])):
         count = random.choice([0, 1, 1, 2, 2, 2, 3, 3, 4, 5])
@@ -71,7 +81,7 @@ def with_shared(random):
     return world.budget, phases
 
 
-def first_lane(world):
+def first_lane(world: Shared) -> list[Call]:
     """The objects that all later lanes share."""
     if world.sort in ("passes", "rendering"):
         pool(world)
@@ -88,7 +98,7 @@ def first_lane(world):
     return taken(world)
 
 
-def act(world):
+def act(world: Shared) -> None:
     random = world.random
     if random.random() < 0.15:
         random.choice([together, together, worlds.scope, worlds.complete, worlds.work_done])(world)
@@ -96,7 +106,7 @@ def act(world):
         random.choices(*ACTS[world.sort])[0](world)
 
 
-def together(world):
+def together(world: Shared) -> None:
     """What lanes do to one object: all choose among the same few."""
     random = world.random
     things = world.buffers[:3] + world.textures[:1] + world.query_sets[:1]
@@ -124,13 +134,13 @@ def together(world):
             world.submit([made])
 
 
-def taken(world):
+def taken(world: Shared) -> list[Call]:
     """The calls that were made since the last lane."""
     made, world.calls = world.calls, []
     return made
 
 
-def phase(world, acts, is_lost_in_it):
+def phase(world: Shared, acts: list[int], is_lost_in_it: bool) -> list[list[Call]]:
     """A phase with a lane for each number of acts. Each lane has its own new objects, and sees the old ones as the phase finds them."""
     before = {name: list(getattr(world, name)) for name in LISTS}
     states = {thing: dict(thing.__dict__) for name in LISTS for thing in before[name]}
@@ -164,7 +174,7 @@ def phase(world, acts, is_lost_in_it):
     return found
 
 
-def end_of_phase(world, states, gone):
+def end_of_phase(world: Shared, states: States, gone: list[States]) -> None:
     """What any lane did to an object is done."""
     world.old_encoders += world.encoders + world.bundle_encoders
     world.encoders, world.bundle_encoders, world.canvases = [], [], []
@@ -178,7 +188,7 @@ def end_of_phase(world, states, gone):
         thing.dropped_at = None if thing.dropped_at is None else -1
 
 
-def malformed(random):
+def malformed(random: Random) -> tuple[int, list[Any]]:
     """The same with a fault or two: names of other lanes and phases, names that are given twice, or phases and lanes that are none."""
     budget, phases = lanes(random)
     for _ in range(random.choice([1, 1, 1, 2])):
@@ -186,12 +196,12 @@ def malformed(random):
     return budget, phases
 
 
-def lists_in(phases):
+def lists_in(phases: list[Any]) -> list[list[Any]]:
     """The lanes that are lists."""
     return [lane for lanes_of in phases if type(lanes_of) is list for lane in lanes_of if type(lane) is list]
 
 
-def of_names(random, phases):
+def of_names(random: Random, phases: list[Any]) -> None:
     """A call has another name, mostly one that another lane of its phase or an earlier phase gives; or it moves to another lane."""
     calls = [(lane, at) for lane in lists_in(phases) for at in range(len(lane)) if type(lane[at]) is dict]
     given = [(lane[at]["as"], lane[at]["do"], lane) for lane, at in calls if "as" in lane[at]]
@@ -209,7 +219,7 @@ def of_names(random, phases):
         return
     lane, at, key = random.choice(users)
     if kind == "as":
-        lane[at] = lane[at] | {key: random.choice(["a b", "", *[name for name, _, _ in given] * 2])}
+        lane[at] = {**lane[at], key: random.choice(["a b", "", *[name for name, _, _ in given] * 2])}
         return
     value = lane[at][key]
     if type(value) is list and (not value or type(value[0]) is not str):
@@ -217,16 +227,16 @@ def of_names(random, phases):
     old = random.choice(value) if type(value) is list else value
     found = [other for other in (alike(given, old, lane), alike(given, old, None), [name for name, _, _ in given]) if other]
     new = random.choice(found[0] if random.random() < 0.8 else found[-1])
-    lane[at] = lane[at] | {key: [*value, new] if type(value) is list else new}
+    lane[at] = {**lane[at], key: [*value, new] if type(value) is list else new}
 
 
-def alike(given, old, lane):
+def alike(given: list[Given], old: str, lane: list[Any] | None) -> list[str]:
     """The names of the kind of another one, those of other lanes than one if there is one."""
     words = {do for name, do, _ in given if name == old}
     return [name for name, do, maker in given if do in words and name != old and (lane is None or maker is not lane)]
 
 
-def of_form(random, phases):
+def of_form(random: Random, phases: list[Any]) -> None:
     """A phase or a lane is none, or there are too many lanes, at times with a call that is wrong before or after it."""
     if not phases:
         return

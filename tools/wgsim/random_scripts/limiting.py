@@ -3,8 +3,15 @@
 What the script that is being made asks for is kept in `now`, as the device has it then: `of` tells a limit by its name.
 """
 
+from __future__ import annotations
+
+from typing import TYPE_CHECKING, Any
+
 from .json_forms import Raw
 from model.limits import ALIGNMENTS, BEST, DEFAULTS, given
+
+if TYPE_CHECKING:
+    from random import Random
 
 WHOLE_LIMIT = 2**53 - 1
 
@@ -14,11 +21,11 @@ now = dict(DEFAULTS)
 RAISED = [name for name in DEFAULTS if BEST[name] != DEFAULTS[name]]
 
 
-def of(name):
+def of(name: str) -> int:
     return now[name]
 
 
-def ask(random, chance):
+def ask(random: Random, chance: float) -> dict[str, int] | None:
     """What a script asks for, now and then: of each name in it the best, the default, something between or something worse; or None, which
     asks for nothing. The limits are then what they are by that."""
     asked = None
@@ -29,7 +36,7 @@ def ask(random, chance):
     return asked
 
 
-def good(random, name):
+def good(random: Random, name: str) -> int:
     """A value that may be asked for."""
     if name in ALIGNMENTS:
         return random.choice([256, 512, 2**31, 2**random.randint(8, 31)])
@@ -49,7 +56,7 @@ def good(random, name):
     )
 
 
-def past(random, name):
+def past(random: Random, name: str) -> Any:
     """A value that may not be asked for: one better than the best, or no whole number in range, or an alignment that is no power of two."""
     values = [
         WHOLE_LIMIT + 1,
@@ -80,12 +87,13 @@ NO_NAMES = [
 ]
 
 
-def faulty(random):
+def faulty(random: Random) -> Any:
     """A value of the key `limits` that breaks a rule as a rule, with good limits beside what is wrong; at times it may do."""
     kind = random.randrange(10)
     if kind == 0:
-        return random.choice([None, [], [["maxBufferSize", 1]], "x", 0, 1, True, "maxBufferSize", {}, [{}]])
-    asked = {name: good(random, name) for name in random.sample(list(DEFAULTS), random.choice([0, 0, 1, 2, len(DEFAULTS)]))}
+        others: list[Any] = [None, [], [["maxBufferSize", 1]], "x", 0, 1, True, "maxBufferSize", {}, [{}]]
+        return random.choice(others)
+    asked: dict[str, Any] = {name: good(random, name) for name in random.sample(list(DEFAULTS), random.choice([0, 0, 1, 2, len(DEFAULTS)]))}
     for _ in range(random.choice([1, 1, 1, 2])):
         if kind in (1, 2, 3):
             asked[random.choice(NO_NAMES)] = random.choice([0, 1, 256, None])

@@ -1,7 +1,16 @@
 """Scripts that break a rule of scripts: good ones with one or two changes to calls, names, the top, or the text itself."""
 
+from __future__ import annotations
+
+from typing import TYPE_CHECKING, Any
+
 from . import canvases, grouping, limiting, passing, worlds
 from .json_forms import Pairs, Raw, text_of
+
+if TYPE_CHECKING:
+    from random import Random
+
+    from .handed import Path
 
 WORD_LIMIT, WHOLE_LIMIT = 2**32 - 1, 2**53 - 1
 UNKNOWN = [
@@ -55,7 +64,7 @@ BAD_NAMES = ["", "a" * 65, "a-b", "a b", "é", "a.b", "a\n", "\0", "ａ", "a" * 
 GOOD_NAMES = ["a" * 64, "_", "0", "9" * 64, "Z_z9", "do", "as"]
 
 
-def malformed(random):
+def malformed(random: Random) -> bytes:
     """The bytes of a script with one or two faults, the first of which is what the answer tells."""
     asked = limiting.ask(random, 0.15)
     kinds = ["bound", "passes", "renders", "queries", "bundles", "canvases", "others"]
@@ -68,7 +77,7 @@ def malformed(random):
         calls = canvases.canvases(random)[1][:length]
     else:
         calls = grouping.groups(random)[1][:length] if kind == "bound" else worlds.mixed(random, length)
-    top = {"budget": random.choice([0, 1, 1000000, WHOLE_LIMIT]), "phases": [[calls]]} | ({} if asked is None else {"limits": asked})
+    top = {"budget": random.choice([0, 1, 1000000, WHOLE_LIMIT]), "phases": [[calls]], **({} if asked is None else {"limits": asked})}
     for _ in range(random.choice([1, 1, 1, 2, 2, 3])):
         top = random.choices([of_call, of_names, of_top, of_limits, same], [14, 5, 2, 2, 1] if has_objects else [10, 6, 3, 3, 1])[0](
             random, top, calls
@@ -80,18 +89,18 @@ def malformed(random):
     return of_bytes(random, data) if random.random() < 0.05 else data
 
 
-def same(random, top, calls):
+def same(random: Random, top: Any, calls: list[Any]) -> Any:
     return top
 
 
-def on_passes(random, calls):
+def on_passes(random: Random, calls: list[Any]) -> list[int]:
     """The places of the calls of one word of those on passes and render pipelines."""
     words = {call["do"] for call in calls if isinstance(call, dict) and call.get("do") in PASS_WORDS}
     word = random.choice(sorted(words)) if words else None
     return [at for at, call in enumerate(calls) if word is not None and isinstance(call, dict) and call.get("do") == word]
 
 
-def inner_objects(value, path=()):
+def inner_objects(value: Any, path: Path = ()) -> list[Path]:
     """The places of the objects inside a call, each a list of keys and numbers."""
     found = []
     for key, inner in value.items() if isinstance(value, dict) else enumerate(value) if isinstance(value, list) else []:
@@ -99,26 +108,26 @@ def inner_objects(value, path=()):
     return found
 
 
-def at_place(value, path):
+def at_place(value: Any, path: Path) -> Any:
     return at_place(value[path[0]], path[1:]) if path else value
 
 
-def with_other(value, path, other):
+def with_other(value: Any, path: Path, other: Any) -> Any:
     """The value with another at a place of it; what it was made of stays as it is."""
     if not path:
         return other
-    copied = dict(value) if isinstance(value, dict) else list(value)
+    copied: Any = dict(value) if isinstance(value, dict) else list(value)
     copied[path[0]] = with_other(copied[path[0]], path[1:], other)
     return copied
 
 
-def any_call(random, calls):
+def any_call(random: Random, calls: list[Any]) -> int | None:
     """The place of a call that is still an object."""
     places = [at for at, call in enumerate(calls) if isinstance(call, dict)]
     return random.choice(places) if places else None
 
 
-def of_call(random, top, calls):
+def of_call(random: Random, top: Any, calls: list[Any]) -> Any:
     """One call, or one value of it, or an object in it, is spoiled."""
     places = [at for at, call in enumerate(calls) if isinstance(call, dict) and inner_objects(call)]
     places = on_passes(random, calls) or places
@@ -137,7 +146,7 @@ def of_call(random, top, calls):
     return top
 
 
-def spoil_object(random, call):
+def spoil_object(random: Random, call: Any) -> bool:
     """Spoils an object inside a call, if there is one."""
     places = inner_objects(call)
     if not places:
@@ -149,27 +158,27 @@ def spoil_object(random, call):
     return True
 
 
-def any_key(random, call):
+def any_key(random: Random, call: Any) -> str:
     return random.choice(list(call))
 
 
-def other_value(random, call):
+def other_value(random: Random, call: dict[str, Any]) -> None:
     call[any_key(random, call)] = random.choice(VALUES)
 
 
-def other_number(random, call):
+def other_number(random: Random, call: Any) -> None:
     numbers = [key for key, value in call.items() if isinstance(value, int)]
     if numbers:
         call[random.choice(numbers)] = Raw(random.choice(NUMBERS))
 
 
-def border_number(random, call):
+def border_number(random: Random, call: Any) -> None:
     numbers = [key for key, value in call.items() if isinstance(value, int)]
     if numbers:
         call[random.choice(numbers)] = random.choice([WORD_LIMIT, WORD_LIMIT + 1, WHOLE_LIMIT, WHOLE_LIMIT + 1])
 
 
-def other_item(random, call):
+def other_item(random: Random, call: Any) -> None:
     lists = [key for key, value in call.items() if isinstance(value, list) and value]
     if lists:
         key = random.choice(lists)
@@ -184,7 +193,7 @@ def other_item(random, call):
         call[key] = items
 
 
-def null_item(random, call):
+def null_item(random: Random, call: Any) -> None:
     """A null in a list, which only `targets` and `colors` may have, be it those of a bundle encoder."""
     lists = [key for key, value in call.items() if isinstance(value, list)]
     if lists:
@@ -192,7 +201,7 @@ def null_item(random, call):
         call[key] = random.choice([[*call[key], None], [None, *call[key]], [None, *call[key][1:]]])
 
 
-def long_list(random, call):
+def long_list(random: Random, call: Any) -> None:
     entry, of_pipeline = {"binding": 0, "visibility": 0, "kind": "sampler"}, {"stride": 0, "attributes": []}
     used, buffer = {"group": 0, "binding": 0, "kind": "sampler"}, of_pipeline if call.get("do") == "createRenderPipeline" else "x"
     lists = [("buffers", buffer), ("layouts", "x"), ("entries", entry), ("iface", used), ("offsets", 0), ("size", 1), ("targets", None)]
@@ -201,11 +210,11 @@ def long_list(random, call):
             call[key] = [item] * random.choice([1024, 1025])
 
 
-def key_gone(random, call):
+def key_gone(random: Random, call: Any) -> None:
     del call[any_key(random, call)]
 
 
-def key_more(random, call):
+def key_more(random: Random, call: Any) -> None:
     call[random.choice(MORE_KEYS)] = random.choice(VALUES)
 
 
@@ -233,13 +242,13 @@ WORD_KEYS = [
 ]
 
 
-def other_word(random, call):
+def other_word(random: Random, call: Any) -> None:
     words = [key for key in WORD_KEYS if key in call]
     if words:
         call[random.choice(words)] = random.choice(WRONG_WORDS)
 
 
-def other_target(random, call):
+def other_target(random: Random, call: Any) -> None:
     """A target, or a color of a bundle encoder, that is no format, or may be one; of any other call something else."""
     key = "colors" if call.get("do") == "createBundleEncoder" else "targets"
     if not isinstance(call.get(key), list):
@@ -248,7 +257,7 @@ def other_target(random, call):
     return None
 
 
-def other_bundle(random, call):
+def other_bundle(random: Random, call: Any) -> None:
     """The keys of a bundle encoder, or the bundles of an executeBundles, of a wrong sort or of one that will do; of any other call
     something else."""
     if call.get("do") == "createBundleEncoder":
@@ -266,7 +275,7 @@ def other_bundle(random, call):
     return other_value(random, call)
 
 
-def other_offsets(random, call):
+def other_offsets(random: Random, call: Any) -> None:
     """The offsets of a setBindGroup: no list, one with something else than a number of 32 bits, or of another length; of any other call
     something else."""
     if call.get("do") != "setBindGroup":
@@ -276,19 +285,16 @@ def other_offsets(random, call):
     return None
 
 
-def canvas(random, call):
+def canvas(random: Random, call: Any) -> dict[str, Any]:
     """A call of a canvas with one value that is wrong, or may be; a key that it lacks or has not; or what it names is none."""
-    made = dict(
-        random.choice(
-            [
-                {"do": "createCanvas", "width": 4, "height": 4, "as": "k"},
-                {"do": "configureCanvas", "canvas": "k", "format": "rgba8unorm"},
-                {"do": "configureCanvas", "canvas": "k", "format": "bgra8unorm", "usage": 16},
-                {"do": "currentTexture", "canvas": "k", "as": "t"},
-                {"do": "present", "canvas": "k"},
-            ]
-        )
-    )
+    calls: list[dict[str, Any]] = [
+        {"do": "createCanvas", "width": 4, "height": 4, "as": "k"},
+        {"do": "configureCanvas", "canvas": "k", "format": "rgba8unorm"},
+        {"do": "configureCanvas", "canvas": "k", "format": "bgra8unorm", "usage": 16},
+        {"do": "currentTexture", "canvas": "k", "as": "t"},
+        {"do": "present", "canvas": "k"},
+    ]
+    made = dict(random.choice(calls))
     key = random.choice([key for key in made if key != "do"])
     change = random.randrange(5)
     if change == 0:
@@ -302,21 +308,24 @@ def canvas(random, call):
     return made
 
 
-def unknown(random, call):
+def unknown(random: Random, call: Any) -> None:
     call["do"] = random.choice(UNKNOWN + [None, 5, [], {}, True])
 
 
-def mapped(random, call):
+def mapped(random: Random, call: Any) -> dict[str, Any]:
     """A buffer whose key `mapped` is of the right type or not; nothing else of it may be wrong."""
-    made = {"do": "createBuffer", "size": 4, "usage": 8, "as": "m", "mapped": random.choice([True, True, 1, "true", None, False])}
-    return made | random.choice([{}, {"x": 1}, {"size": None}, {"usage": -1}, {"do": "createView"}])
+    values: list[Any] = [True, True, 1, "true", None, False]
+    made = {"do": "createBuffer", "size": 4, "usage": 8, "as": "m", "mapped": random.choice(values)}
+    more: list[dict[str, Any]] = [{}, {"x": 1}, {"size": None}, {"usage": -1}, {"do": "createView"}]
+    return {**made, **random.choice(more)}
 
 
-def automatic(random, call):
+def automatic(random: Random, call: Any) -> dict[str, Any]:
     """A layout that is the word `auto`, which is a name where it is not that of a pipeline, or a getBindGroupLayout, with something else
     wrong or not."""
-    made = {"do": random.choice(["createComputePipeline", "createRenderPipeline", "createBindGroup"]), "layout": "auto", "as": "m"}
-    made |= random.choice([{"iface": []}, {"entries": []}])
+    words = ["createComputePipeline", "createRenderPipeline", "createBindGroup"]
+    made: dict[str, Any] = {"do": random.choice(words), "layout": "auto", "as": "m"}
+    made[random.choice(["iface", "entries"])] = []
     if random.random() < 0.5:
         made = {
             "do": "getBindGroupLayout",
@@ -325,37 +334,38 @@ def automatic(random, call):
             "as": "m",
         }
         made.pop(random.choice(["do", "pipeline", "index", "as", *["none"] * 8]), None)
-    return made | random.choice(
-        [{}, {}, {}, {"x": 1}, {"as": None}, {"layout": ["auto"]}, {"layout": "Auto"}, {"pipeline": 7}, {"as": "auto"}]
-    )
+    more: list[dict[str, Any]] = [
+        {}, {}, {}, {"x": 1}, {"as": None}, {"layout": ["auto"]}, {"layout": "Auto"}, {"pipeline": 7}, {"as": "auto"},
+    ]
+    return {**made, **random.choice(more)}
 
 
-def sliced(random, call):
+def sliced(random: Random, call: Any) -> dict[str, Any]:
     """A begin of a render pass with a slice, good or not, or with its key in another place, and something else wrong or not; `queries`
     stands behind what else the begin has."""
-    color, colors = {"view": "v", "load": "load", "store": "store"}, [None]
-    slice = {"depthSlice": random.choice([0, 1, WORD_LIMIT, WORD_LIMIT + 1, None, "x", -1, 1.5, True, [], Raw(random.choice(NUMBERS))])}
-    places = [
-        {"colors": [color | slice]},
-        {"colors": [color | slice]},
-        {"colors": [None, color, color | slice]},
+    color: dict[str, Any] = {"view": "v", "load": "load", "store": "store"}
+    slices: list[Any] = [0, 1, WORD_LIMIT, WORD_LIMIT + 1, None, "x", -1, 1.5, True, [], Raw(random.choice(NUMBERS))]
+    slice = {"depthSlice": random.choice(slices)}
+    places: list[dict[str, Any]] = [
+        {"colors": [{**color, **slice}]},
+        {"colors": [{**color, **slice}]},
+        {"colors": [None, color, {**color, **slice}]},
         {"colors": [None, slice]},
         {"colors": [5, [slice], slice]},
         {"colors": [[slice]]},
         {"colors": slice},
-        {"depth": {"view": "v"} | slice},
+        {"depth": {"view": "v", **slice}},
         slice,
-        {"colors": [color, color | {"queries": 0}]},
+        {"colors": [color, {**color, "queries": 0}]},
         {"colors": [None] * 1024 + [slice]},
     ]
     places += [{"queries": value} for value in ("q", None, 0, [])]
-    made = {"do": random.choice(["beginRenderPass"] * 5 + ["beginComputePass"]), "on": "e", "colors": colors, "as": "m"} | random.choice(
-        places
-    )
-    return made | random.choice([{}, {}, {"x": 1}, {"as": None}, {"depth": None}])
+    made = {"do": random.choice(["beginRenderPass"] * 5 + ["beginComputePass"]), "on": "e", "colors": [None], "as": "m"}
+    more: list[dict[str, Any]] = [{}, {}, {"x": 1}, {"as": None}, {"depth": None}]
+    return {**made, **random.choice(places), **random.choice(more)}
 
 
-def other_kind(random, entry):
+def other_kind(random: Random, entry: dict[str, Any]) -> None:
     """An object with other keys than its kind has, or with another kind than its keys are for."""
     change = random.randrange(3)
     if change == 0 and "kind" in entry:
@@ -370,7 +380,7 @@ def other_kind(random, entry):
         )
 
 
-def needed_gone(random, entry):
+def needed_gone(random: Random, entry: dict[str, Any]) -> None:
     """An object without a key that it needs."""
     needed = [key for key in NEEDED_KEYS if key in entry]
     if needed:
@@ -384,18 +394,18 @@ NEEDED_KEYS = [
 ]
 
 
-def past_word(random, entry):
+def past_word(random: Random, entry: dict[str, Any]) -> None:
     """A number of 32 bits that is one too great."""
     numbers = [key for key in ("group", "binding", "visibility", "stride", "location") if key in entry]
     if numbers:
         entry[random.choice(numbers)] = WORD_LIMIT + 1
 
 
-def no_object(random, call):
+def no_object(random: Random, call: Any) -> Any:
     return random.choice([None, 5, "createBuffer", [], [call], True, 1.5])
 
 
-def repeated(random, call):
+def repeated(random: Random, call: Any) -> Pairs:
     """A repeated key: its last value counts."""
     pairs = list(call.items())
     key, value = random.choice(pairs)
@@ -415,16 +425,16 @@ OBJECT_CHANGES = [
 OBJECT_WEIGHTS = [3, 3, 2, 5, 1, 6, 3, 4, 5, 2, 2, 1]
 
 
-def given_by(calls):
+def given_by(calls: list[Any]) -> list[str]:
     return [call["as"] for call in calls if isinstance(call, dict) and isinstance(call.get("as"), str)]
 
 
-def naming_objects(call):
+def naming_objects(call: Any) -> list[Path]:
     """The places of the objects inside a call that name something."""
     return [path for path in inner_objects(call) if NAME_KEYS & set(at_place(call, path))]
 
 
-def uses_names(call):
+def uses_names(call: Any) -> object:
     return isinstance(call, dict) and (NAME_KEYS & set(call) or any(call.get(key) for key in LIST_KEYS) or naming_objects(call))
 
 
@@ -433,7 +443,7 @@ KIN = ["beginComputePass", "beginRenderPass", "createEncoder", "createBundleEnco
 LIST_KEYS = ["buffers", "layouts", "bundles"]
 
 
-def crossed(random, calls):
+def crossed(random: Random, calls: list[Any]) -> None:
     """A call on a pass names a pass or a pipeline of the other kind, if there is one before it."""
     places = [
         at for at, call in enumerate(calls) if isinstance(call, dict) and call.get("do") in PASS_WORDS and {"on", "pipeline"} & set(call)
@@ -447,10 +457,10 @@ def crossed(random, calls):
         mine = [call["do"] for call in before if call["as"] == calls[at].get(key)]
         others = [call["as"] for call in before if call["do"] not in mine]
         if others:
-            calls[at] = dict(calls[at]) | {key: random.choice(others)}
+            calls[at] = {**calls[at], key: random.choice(others)}
 
 
-def of_names(random, top, calls):
+def of_names(random: Random, top: Any, calls: list[Any]) -> Any:
     """A name is malformed, given twice, unknown, of a wrong kind, or used before it is given."""
     if random.random() < 0.15:
         crossed(random, calls)
@@ -489,15 +499,15 @@ def of_names(random, top, calls):
     return top
 
 
-def rename_inside(random, call, other):
+def rename_inside(random: Random, call: Any, other: Any) -> None:
     """What an object inside a call names has another name, as what an entry of a bind group binds."""
     path = random.choice(naming_objects(call))
     item = at_place(call, path)
     key = random.choice(sorted(NAME_KEYS & set(item)))
-    call.update(with_other(call, path, item | {key: random.choice([other, other, "unknown", call.get("as", "x")])}))
+    call.update(with_other(call, path, {**item, key: random.choice([other, other, "unknown", call.get("as", "x")])}))
 
 
-def of_top(random, top, calls):
+def of_top(random: Random, top: Any, calls: list[Any]) -> Any:
     """The top, the phases or the lanes are not as they should be."""
     top = dict(top.pairs) if isinstance(top, Pairs) else dict(top) if isinstance(top, dict) else {"budget": 1, "phases": []}
     change = random.randrange(10)
@@ -522,29 +532,27 @@ def of_top(random, top, calls):
     return top
 
 
-def of_limits(random, top, calls):
+def of_limits(random: Random, top: Any, calls: list[Any]) -> Pairs:
     """The limits that are asked for are faulty, as a rule, at times beside what is wrong at the top or with the first phase."""
     top = dict(top.pairs) if isinstance(top, Pairs) else dict(top) if isinstance(top, dict) else {"budget": 1, "phases": []}
     top["limits"] = limiting.faulty(random) if random.random() < 0.85 else {name: limiting.good(random, name) for name in limiting.DEFAULTS}
-    more = random.choice(
-        [{}] * 8
-        + [
-            {"budget": -1},
-            {"phases": 5},
-            {"phases": [[]] * 1025},
-            {"phases": [7]},
-            {"phases": [[[{"do": "present"}]]]},
-            {"phases": [[[{"do": "createRenderPipeline", "layout": "auto"}]]]},
-            {"x": 1},
-        ]
-    )
-    pairs = list((top | more).items())
+    others: list[dict[str, Any]] = [
+        {}, {}, {}, {}, {}, {}, {}, {},
+        {"budget": -1},
+        {"phases": 5},
+        {"phases": [[]] * 1025},
+        {"phases": [7]},
+        {"phases": [[[{"do": "present"}]]]},
+        {"phases": [[[{"do": "createRenderPipeline", "layout": "auto"}]]]},
+        {"x": 1},
+    ]
+    pairs = list({**top, **random.choice(others)}.items())
     if random.random() < 0.15:
         pairs.insert(random.randint(0, len(pairs)), ("limits", random.choice([{}, None, limiting.faulty(random)])))
     return Pairs(pairs)
 
 
-def of_text(random, text):
+def of_text(random: Random, text: str) -> str:
     """The text is no JSON any more, or just still is."""
     at = random.randrange(len(text) + 1)
     change = random.randrange(12)
@@ -603,12 +611,12 @@ STRINGS = [
 ]
 
 
-def in_budget(value, text):
+def in_budget(value: str, text: str) -> str:
     """Puts a text in place of all else: the top is an object whose budget it is, or the value alone."""
     return value if len(value) % 5 == 0 else '{"budget":' + value + ',"phases":[]}'
 
 
-def nested(random):
+def nested(random: Random) -> str:
     """So many lists and objects, about as deep as they may be; the budget stands one deep."""
     depth = random.choice([125, 126, 126, 127, 127, 128, 129])
     if random.random() < 0.5:
@@ -616,7 +624,7 @@ def nested(random):
     return '{"a":' * (depth - 1) + "{}" + "}" * (depth - 1)
 
 
-def of_bytes(random, data):
+def of_bytes(random: Random, data: bytes) -> bytes:
     """Bytes that are no UTF-8, or just still are."""
     pieces = [
         b"\xff", b"\xc3", b"\xc0\x80", b"\xed\xa0\x80", b"\xf4\x90\x80\x80", b"\xe2\x82", b"\xc3\xa9", b"\xf0\x9f\x98\x80", b"\x80",

@@ -5,6 +5,10 @@ The commands of an encoder are planned as a list of calls before they are added,
 encoders can be mixed.
 """
 
+from __future__ import annotations
+
+from typing import TYPE_CHECKING, Any
+
 from .bindings import is_written
 from .bundling import bare_calls, bundle_alone, render_calls
 from .commands import clear_buffer, copy_buffer, write_buffer, write_texture
@@ -24,10 +28,15 @@ from .targets import multisampled_pool, pool_target, target_pool
 from .world import Thing, World
 from .worlds import complete, last_before_loss, maps, scope, work_done
 
+if TYPE_CHECKING:
+    from random import Random
+
+    from .handed import Act, Call, Groups, Now
+
 BUDGETS = [2**53 - 1] * 16 + [40_000, 4_000]
 
 
-def passes(random, longest=10, renders=0.1, queries=0.2, bundled=0.08):
+def passes(random: Random, longest: int = 10, renders: float = 0.1, queries: float = 0.2, bundled: float = 0.08) -> tuple[int, list[Call]]:
     """A budget, and calls; so many of the passes are render passes, so many of these have a query set, and before so many of their draws
     bundles are executed."""
     world = World(random, random.choice([0.05, 0.3, 0.6] if renders < 0.5 else [0.02, 0.05, 0.3, 0.5]))
@@ -57,17 +66,17 @@ def passes(random, longest=10, renders=0.1, queries=0.2, bundled=0.08):
     return random.choice(BUDGETS), world.calls
 
 
-def rendering(random, longest=10):
+def rendering(random: Random, longest: int = 10) -> tuple[int, list[Call]]:
     """The same, mostly of render passes."""
     return passes(random, longest, 0.85)
 
 
-def queries(random):
+def queries(random: Random) -> tuple[int, list[Call]]:
     """The same, with a query set in most of the passes, and resolves between them."""
     return passes(random, 10, 0.9, 0.8)
 
 
-def bundles(random):
+def bundles(random: Random) -> tuple[int, list[Call]]:
     """The same, with bundles in most of the passes."""
     return passes(random, 10, 0.9, 0.1, 0.5)
 
@@ -76,27 +85,27 @@ class Plan:
     """The commands of an encoder that is made later, with the things that they name, or bind where they do not name them. A plan is
     good where its commands leave no rule unmet; it clashes where a usage scope is to do so."""
 
-    def __init__(self, encoder):
+    def __init__(self, encoder: str) -> None:
         self.encoder = encoder
         self.good = True
         self.clashes = False
-        self.calls = []
-        self.named = []
-        self.bound = []
+        self.calls: list[Call] = []
+        self.named: list[Thing] = []
+        self.bound: list[Thing] = []
 
 
-def some_pipeline(world):
+def some_pipeline(world: World) -> Thing:
     """A pipeline for which there are groups; at times a new one."""
     random = world.random
     old = [thing for thing in usable(world, world.pipelines) if hasattr(thing, "layouts") and thing.layouts is not None]
     return random.choice(old[-4:]) if old and random.random() < 0.85 else kit(world)
 
 
-def clashing(world, wanted, counts):
+def clashing(world: World, wanted: str | None, counts: str | None) -> tuple[Thing, Groups] | None:
     """A pipeline that asks for what may clash, and the groups and offsets that do; or None."""
     for _ in range(4):
         pipeline = some_pipeline(world)
-        entries = [entry for layout in pipeline.layouts for entry in layout.entries if entry["kind"] != "sampler"]
+        entries = [entry for layout in pipeline.own_layouts() for entry in layout.entries if entry["kind"] != "sampler"]
         if any(is_written(entry) for entry in entries) and (len(entries) > 1 or counts is not None and wanted == "scope"):
             found = bound_by(world, pipeline, wanted, counts)
             if found is not None:
@@ -104,29 +113,32 @@ def clashing(world, wanted, counts):
     return None
 
 
-def dispatch_call(world, on, counts):
+def dispatch_call(world: World, on: str, counts: str | None) -> Call:
     """A dispatch, or an indirect one whose counts stand in a buffer; at times the last of it."""
     random = world.random
     if counts is not None:
         last = (size_of(world, counts) - 12) // 4 * 4
         return {"do": "dispatchIndirect", "on": on, "buffer": counts, "offset": random.choice([0, last, 4 * random.randint(0, last // 4)])}
     call = {"do": "dispatch", "on": on, "x": random.choice([1, 4, 0, 65_535])}
-    return call | random.choice([{}, {}, {"y": random.choice([1, 2, 0, 65_535])}, {"z": 2}, {"y": 3, "z": random.choice([0, 65_535])}])
+    return {**call, **random.choice([{}, {}, {"y": random.choice([1, 2, 0, 65_535])}, {"z": 2}, {"y": 3, "z": random.choice([0, 65_535])}])}
 
 
-def dispatches(world, on, wanted):
+def dispatches(world: World, on: str, wanted: str | None) -> list[Call]:
     """The settings and dispatches of a pass: what was set before is set again at times, and the pipeline anew. A group may be set at the
     end, for no dispatch."""
-    random, calls, now = world.random, [], {}
+    random = world.random
+    calls: list[Call] = []
+    now: Now = {}
     for number in range(random.choice([1, 1, 2, 2, 3, 4])):
-        counts = pick(world, buffers_in(world, INDIRECT)) if random.random() < 0.35 else None
-        counts = None if counts is None or counts.call["size"] < 12 else counts.name
+        buffer = pick(world, buffers_in(world, INDIRECT)) if random.random() < 0.35 else None
+        counts = None if buffer is None or buffer.call["size"] < 12 else buffer.name
         chosen = clashing(world, wanted, counts) if wanted is not None and number == 0 else None
         pipeline = chosen[0] if chosen is not None else some_pipeline(world)
         found = chosen[1] if chosen is not None else bound_by(world, pipeline, None, counts)
         if found is None:
             continue
-        settings = [(("pipeline",), pipeline.name, {"do": "setPipeline", "on": on, "pipeline": pipeline.name})]
+        settings: list[tuple[object, object, Call]] = []
+        settings.append((("pipeline",), pipeline.name, {"do": "setPipeline", "on": on, "pipeline": pipeline.name}))
         for index, (group, offsets) in found.items():
             settings.append(((index,), (group.name, offsets), set_call(random, on, index, group, offsets)))
         settings = [one for one in settings if now.get(one[0]) != one[1] or random.random() < 0.3]
@@ -135,13 +147,13 @@ def dispatches(world, on, wanted):
         calls += stray(world, on, [index for index in range(4) if index not in found], now)
         calls += [call for _, _, call in settings]
         calls += [dispatch_call(world, on, counts) for _ in range(random.choice([1, 1, 1, 2]))]
-    group = pick(world, [thing for thing in usable(world, world.groups) if hasattr(thing, "shape")])
-    if group is not None and random.random() < 0.15:
-        calls.append(set_call(random, on, random.randrange(4), group, offsets_for(world, group)))
+    one = pick(world, [thing for thing in usable(world, world.groups) if hasattr(thing, "shape")])
+    if one is not None and random.random() < 0.15:
+        calls.append(set_call(random, on, random.randrange(4), one, offsets_for(world, one)))
     return calls
 
 
-def stray(world, on, free, now):
+def stray(world: World, on: str, free: list[int], now: Now) -> list[Call]:
     """Settings at an index that no group is asked for at, or that are replaced later; debug groups."""
     random = world.random
     calls = []
@@ -155,7 +167,7 @@ def stray(world, on, free, now):
     return calls
 
 
-def one_pass(world, plan):
+def one_pass(world: World, plan: Plan) -> None:
     """A pass of either kind, good as a rule; else with a fault or two."""
     random = world.random
     is_render = random.random() < world.renders
@@ -179,16 +191,16 @@ def one_pass(world, plan):
     plan.calls += calls
 
 
-def again(world, on, calls):
+def again(world: World, on: str, calls: list[Call]) -> list[Call]:
     """The same pass once more, under another name."""
     name = world.new_name("a")
-    return [call | ({"on": name} if call.get("on") == on else {"as": name}) for call in calls]
+    return [{**call, **({"on": name} if call.get("on") == on else {"as": name})} for call in calls]
 
 
-def late_on_pass(world, on, is_render):
+def late_on_pass(world: World, on: str, is_render: bool) -> list[Call]:
     """Calls on a pass after its end."""
     random, buffer = world.random, world.buffers[0].name
-    calls = [{"do": "end"}, {"do": "popDebugGroup"}, {"do": "pushDebugGroup"}]
+    calls: list[Call] = [{"do": "end"}, {"do": "popDebugGroup"}, {"do": "pushDebugGroup"}]
     if is_render:
         calls += [
             {"do": "draw", "vertices": 1},
@@ -203,10 +215,10 @@ def late_on_pass(world, on, is_render):
     pipelines = world.render_pipelines if is_render else world.pipelines
     calls += [{"do": "setPipeline", "pipeline": thing.name} for thing in pipelines[-1:]]
     calls += [{"do": "setBindGroup", "index": 0, "group": thing.name} for thing in world.groups[-1:]]
-    return [call | {"on": on} for call in random.sample(calls, random.choice([1, 1, 2]))]
+    return [{**call, "on": on} for call in random.sample(calls, random.choice([1, 1, 2]))]
 
 
-def outside(world, plan):
+def outside(world: World, plan: Plan) -> None:
     """Commands on the encoder between passes. What they need is made before."""
     random = world.random
     encoder = Thing(plan.encoder, {}, True)
@@ -230,7 +242,7 @@ def outside(world, plan):
         plan.good = False
 
 
-def image_copy(world, encoder, good):
+def image_copy(world: World, encoder: Thing, good: bool) -> None:
     """A copy of a layer of a mip level of what was bound, or of a slice or some slices: to another layer, or from or to a buffer."""
     random = world.random
     images = [thing for thing in usable(world, world.textures) if not thing.destroyed and thing.call["samples"] == 1]
@@ -243,7 +255,7 @@ def image_copy(world, encoder, good):
     size = [width, random.choice([height, height, 1]), 1]
     if at != other and image.call["dim"] == "2d":
         call = {"do": "copyTextureToTexture", "on": encoder.name, "source": image.name, "target": image.name, "size": size}
-        world.add(call | {"sourceMip": mip, "targetMip": mip, "sourceOrigin": [0, 0, at], "targetOrigin": [0, 0, other]})
+        world.add({**call, "sourceMip": mip, "targetMip": mip, "sourceOrigin": [0, 0, at], "targetOrigin": [0, 0, other]})
         return
     if image.call["dim"] == "3d":
         size[2] = random.choice([1, 1, layers - at])
@@ -253,10 +265,10 @@ def image_copy(world, encoder, good):
     if buffer is not None:
         word = random.choice(["copyBufferToTexture", "copyTextureToBuffer"])
         spot = {"texture": image.name, "mip": mip, "origin": [0, 0, at], "size": size}
-        world.add({"do": word, "on": encoder.name, "buffer": buffer.name, "bytesPerRow": 256, "rowsPerImage": size[1]} | spot)
+        world.add({"do": word, "on": encoder.name, "buffer": buffer.name, "bytesPerRow": 256, "rowsPerImage": size[1], **spot})
 
 
-def end_gone(random, plan):
+def end_gone(random: Random, plan: Plan) -> None:
     """The last pass is not ended, and nothing follows on the encoder as a rule."""
     last = places(plan.calls, "end")[-1]
     on = plan.calls[last]["on"]
@@ -267,7 +279,7 @@ def end_gone(random, plan):
     plan.good = False
 
 
-def planned(world):
+def planned(world: World) -> Plan:
     """The commands of one encoder, which is not made yet."""
     if len(buffers_in(world, INDIRECT)) < 2:
         pool_buffer(world)
@@ -285,7 +297,7 @@ def planned(world):
     return plan
 
 
-def behind(world, things):
+def behind(world: World, things: list[Thing]) -> list[Thing]:
     """What takes memory and stands behind some things: what is bound in a group, attached by a view, or used by a bundle."""
     names = {cell[1] for thing in things for _, cells in getattr(thing, "bound", []) for cell in cells}
     names |= {thing.texture.name for thing in things if hasattr(thing, "texture")}
@@ -293,7 +305,7 @@ def behind(world, things):
     return [thing for thing in world.buffers + world.textures if thing.name in names]
 
 
-def names_in(value):
+def names_in(value: Any) -> list[str]:
     """The texts in a call, among them the names that it uses."""
     if isinstance(value, str):
         return [value]
@@ -301,7 +313,7 @@ def names_in(value):
     return [name for item in items for name in names_in(item)]
 
 
-def make_encoder(world, plan):
+def make_encoder(world: World, plan: Plan) -> Thing:
     """The encoder of a plan, at times after something was dropped that its commands name, or that is bound."""
     random = world.random
     if random.random() < (0.3 if plan.clashes else 0.04):
@@ -315,13 +327,13 @@ def make_encoder(world, plan):
     return thing
 
 
-def drop_some(world, things):
+def drop_some(world: World, things: list[Thing]) -> None:
     kept = [thing for thing in things if not thing.dropped]
     for thing in world.random.sample(kept, min(len(kept), world.random.choice([1, 1, 2]))):
         world.drop(thing)
 
 
-def let_go(world, plans):
+def let_go(world: World, plans: list[Plan]) -> None:
     """A group, a view or a bundle that a plan names is dropped, with all that stands behind it and the views of that, in some order; some
     of it may be destroyed."""
     random = world.random
@@ -337,7 +349,7 @@ def let_go(world, plans):
             world.drop(thing)
 
 
-def mixed(random, lists):
+def mixed(random: Random, lists: list[list[Call]]) -> list[Call]:
     """The items of some lists in one, each list in its order."""
     lists, found = [list(one) for one in lists if one], []
     while lists:
@@ -347,7 +359,7 @@ def mixed(random, lists):
     return found
 
 
-def work(world):
+def work(world: World) -> None:
     """One or two encoders with passes, which are finished and submitted as a rule."""
     random = world.random
     plans = [planned(world) for _ in range(random.choice([1, 1, 1, 2]))]
@@ -386,14 +398,14 @@ def work(world):
         complete(world)
 
 
-def without_faults(world):
+def without_faults(world: World) -> None:
     """Work that is good; so most scripts have some that is accepted."""
     fault, world.fault = world.fault, 0
     work(world)
     world.fault = fault
 
 
-def submit(world, plans, ones):
+def submit(world: World, plans: list[Plan], ones: list[Thing]) -> None:
     """A submit of some command buffers; what they use may be gone."""
     used = [thing for plan in plans for thing in plan.named + plan.bound]
     is_gone = any(thing.destroyed or thing.mapped for thing in used)
@@ -405,7 +417,7 @@ def submit(world, plans, ones):
         world.submit(ones)
 
 
-def between(world, plans):
+def between(world: World, plans: list[Plan]) -> None:
     """What may be done before the submit: a buffer that is mapped is unmapped, something is destroyed or dropped, or written."""
     random = world.random
     for thing in dict.fromkeys(thing for plan in plans for thing in plan.named + plan.bound):
@@ -426,17 +438,17 @@ def between(world, plans):
         write(world)
 
 
-def late(world, plan):
+def late(world: World, plan: Plan) -> None:
     """Calls on an encoder that has ended, and on its passes; at times a pass that is begun only then."""
     random = world.random
     begun = [(call["as"], call["do"] == "beginRenderPass") for call in plan.calls if call["do"] in ("beginComputePass", "beginRenderPass")]
     kind = random.randrange(3)
     if kind == 0:
-        calls = [{"do": "pushDebugGroup"}, {"do": "clearBuffer", "buffer": world.buffers[0].name}]
+        calls: list[Call] = [{"do": "pushDebugGroup"}, {"do": "clearBuffer", "buffer": world.buffers[0].name}]
         if random.random() < world.queries:
             resolve = {"do": "resolveQuerySet", "queries": some_set(world).name, "first": 0, "count": 1}
-            calls = [resolve | {"buffer": world.buffers[0].name, "offset": 0}]
-        world.add(random.choice(calls) | {"on": plan.encoder})
+            calls = [{**resolve, "buffer": world.buffers[0].name, "offset": 0}]
+        world.add({**random.choice(calls), "on": plan.encoder})
     elif kind == 1:
         for call in late_on_pass(world, *random.choice(begun)):
             world.add(call)
@@ -449,7 +461,7 @@ def late(world, plan):
         world.add({"do": "finish", "on": plan.encoder, "as": world.new_name("c")})
 
 
-def spoiled(world):
+def spoiled(world: World) -> None:
     """A few encoders, each with one render pass that has a fault, and is not submitted as a rule."""
     random = world.random
     for _ in range(random.choice([2, 3, 4])):
@@ -468,7 +480,7 @@ def spoiled(world):
             world.submit([made])
 
 
-def resolves(world):
+def resolves(world: World) -> None:
     """A few encoders of a resolve or two, half of them with a fault."""
     random = world.random
     for _ in range(random.choice([1, 2, 3, 4])):
@@ -481,24 +493,25 @@ def resolves(world):
             world.submit([made])
 
 
-def bundled(world):
+def bundled(world: World) -> None:
     """Bundles that no pass is there for, some of them with a fault, and such whose encoder stays open."""
     for _ in range(world.random.choice([2, 3, 4, 5])):
         bundle_alone(world, spoil_bundle)
 
 
-def bare(world):
+def bare(world: World) -> None:
     """A pass of few commands: with nothing set, or of a pipeline that asks for nothing."""
     random = world.random
     if random.random() < world.renders:
         on = world.new_name("r")
         calls = bare_calls(world, None, on)
         encoder = world.encoder()
-        for call in [calls[0] | {"on": encoder.name}, *calls[1:]]:
+        for call in [{**calls[0], "on": encoder.name}, *calls[1:]]:
             world.add(call)
         world.submit([world.finish(encoder)])
         return
-    pipeline = new_pipeline(world, random.choice([[], [new_layout(world, [])]]))
+    none: list[Thing] = []
+    pipeline = new_pipeline(world, random.choice([none, [new_layout(world, [])]]))
     encoder, on = world.encoder(), world.new_name("q")
     world.add({"do": "beginComputePass", "on": encoder.name, "as": on})
     if random.random() < 0.8:
@@ -511,27 +524,29 @@ def bare(world):
     world.submit([world.finish(encoder)])
 
 
-def write(world):
+def write(world: World) -> None:
     world.random.choice([write_buffer, write_buffer, write_texture])(world, True)
 
 
-def more(world):
+def more(world: World) -> None:
     """More of what there is, so that later work has it new."""
     if world.random.random() < world.queries / 2:
         world.query_set(not world.has_fault())
     elif world.random.random() < world.renders:
-        world.random.choice([pool_buffer, pool_target, multisampled_pool, target_pool])(world)
+        targets: list[Act] = [pool_buffer, pool_target, multisampled_pool, target_pool]
+        world.random.choice(targets)(world)
     else:
-        world.random.choice([pool_buffer, pool_texture, kit])(world)
+        others: list[Act] = [pool_buffer, pool_texture, kit]
+        world.random.choice(others)(world)
 
 
-def destroy(world):
+def destroy(world: World) -> None:
     things = [thing for thing in world.resources() if not thing.destroyed]
     if len(things) > 2:
         world.destroy(world.random.choice(things))
 
 
-def drop(world):
+def drop(world: World) -> None:
     """Of what was not dropped; what holds something else more often."""
     random = world.random
     kept = [thing for thing in world.everything() if not thing.dropped]
@@ -540,21 +555,21 @@ def drop(world):
         world.drop(random.choice(holding if holding and random.random() < 0.5 else kept))
 
 
-def unmap(world):
+def unmap(world: World) -> None:
     found = [thing for thing in world.buffers if thing.mapped]
     if found:
         world.unmap(world.random.choice(found))
 
 
-ACTS = [work, bare, kit, more, write, destroy, drop, unmap, complete, maps, scope, work_done]
+ACTS: list[Act] = [work, bare, kit, more, write, destroy, drop, unmap, complete, maps, scope, work_done]
 WEIGHTS = [40, 2, 4, 3, 5, 1, 3, 4, 4, 1, 3, 1]
 
 # In scripts that are mostly of render passes these come besides.
-RENDER_ACTS = [spoiled, render_pipelines]
+RENDER_ACTS: list[Act] = [spoiled, render_pipelines]
 RENDER_WEIGHTS = [25, 10]
 
 # And in those of query sets and of bundles these.
-QUERY_ACTS = [resolves]
+QUERY_ACTS: list[Act] = [resolves]
 QUERY_WEIGHTS = [12]
-BUNDLE_ACTS = [bundled]
+BUNDLE_ACTS: list[Act] = [bundled]
 BUNDLE_WEIGHTS = [30]

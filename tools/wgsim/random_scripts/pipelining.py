@@ -1,5 +1,9 @@
 """Render pipelines at the borders of their rules: good ones that come just up to a limit, and ways to leave one rule unmet."""
 
+from __future__ import annotations
+
+from typing import TYPE_CHECKING
+
 from .bindings import GREATEST_32, told, used_by
 from .drawing import (
     ATTRIBUTE_BYTES, MOST_BUFFERS, STAGES, add_render_pipeline, some_attribute, some_iface, some_vertex_buffers,
@@ -10,15 +14,21 @@ from .limiting import of as limit
 from .resources import COLOR_FORMATS, DEPTH_FORMATS
 from .targets import ASPECTS_OF, FOUR_COLORS, MOST_COLORS
 
+if TYPE_CHECKING:
+    from random import Random
+
+    from .handed import Call
+    from .world import Thing, World
+
 ONE_COLORS = [format for format in COLOR_FORMATS if format not in FOUR_COLORS]
 
 
-def render_pipelines(world):
+def render_pipelines(world: World) -> None:
     for _ in range(world.random.choice([2, 3, 4])):
         render_pipeline(world, not world.has_fault() and world.random.random() < 0.7)
 
 
-def render_pipeline(world, good):
+def render_pipeline(world: World, good: bool) -> None:
     """A pipeline that meets its rules, often just so, or leaves one or two of them unmet."""
     random = world.random
     is_bad = not good and random.random() < 0.15
@@ -27,10 +37,10 @@ def render_pipeline(world, good):
         layout = pipeline_layout_of(world, [layout_of(world, [], True)] * 5, False)
     if is_bad and random.random() < 0.5:
         world.drop(layout)
-    call = {
+    call: Call = {
         "do": "createRenderPipeline",
         "layout": layout.name,
-        "iface": some_iface(random, layout.layouts),
+        "iface": some_iface(random, layout.own_layouts()),
         "buffers": some_vertex_buffers(random),
     }
     border(random, call["buffers"])
@@ -47,13 +57,13 @@ def render_pipeline(world, good):
     add_render_pipeline(world, call, good)
 
 
-def some_depth(random):
+def some_depth(random: Random) -> Call:
     format = random.choice(DEPTH_FORMATS)
     writes = {f"{aspect}Write": aspect in ASPECTS_OF[format] and random.random() < 0.6 for aspect in ("depth", "stencil")}
-    return {"format": format} | writes
+    return {"format": format, **writes}
 
 
-def border(random, buffers):
+def border(random: Random, buffers: list[Call]) -> None:
     """At times the buffers come just up to a limit: in their number, in all attributes together, in a stride or a location."""
     kind = random.randrange(12)
     if kind == 0:
@@ -70,11 +80,11 @@ def border(random, buffers):
             )
 
 
-def locations_in(buffers):
+def locations_in(buffers: list[Call]) -> list[int]:
     return [attribute["location"] for one in buffers for attribute in one["attributes"]]
 
 
-def fill(random, buffers, count):
+def fill(random: Random, buffers: list[Call], count: int) -> None:
     """So many attributes in all, each with a location of its own, as far as there are."""
     if not buffers:
         buffers.append({"stride": 16, "step": "vertex", "attributes": []})
@@ -84,7 +94,7 @@ def fill(random, buffers, count):
         one["attributes"].append(some_attribute(random, one["stride"] or limit("maxVertexBufferArrayStride"), location))
 
 
-def some_with_attribute(random, buffers):
+def some_with_attribute(random: Random, buffers: list[Call]) -> tuple[Call, Call]:
     """A vertex buffer that has an attribute, and one of its attributes."""
     if not any(one["attributes"] for one in buffers):
         buffers[:] = buffers[:MOST_BUFFERS - 1] + [{"stride": 16, "step": "vertex", "attributes": [some_attribute(random, 16, 3)]}]
@@ -92,9 +102,9 @@ def some_with_attribute(random, buffers):
     return one, random.choice(one["attributes"])
 
 
-def wrong_interface(random, call, layout):
+def wrong_interface(random: Random, call: Call, layout: Thing) -> None:
     """What the layout does not offer, or not to the stage."""
-    places = [(group, entry) for group, one in enumerate(layout.layouts) for entry in one.entries]
+    places = [(group, entry) for group, one in enumerate(layout.own_layouts()) for entry in one.entries]
     seen = [(group, entry) for group, entry in places if entry["visibility"] & 3]
     hidden = [(stage, place) for place in places for stage, bit in STAGES.items() if not place[1]["visibility"] & bit]
     if hidden and random.random() < 0.4:
@@ -102,38 +112,38 @@ def wrong_interface(random, call, layout):
         entry = used_by(random, *place)
     else:
         entry, stage = not_offered(random, layout, places, seen), random.choice(list(STAGES))
-    call["iface"].insert(random.randint(0, len(call["iface"])), told(random, entry) | {"stage": stage})
+    call["iface"].insert(random.randint(0, len(call["iface"])), {**told(random, entry), "stage": stage})
 
 
-def too_many_buffers(random, call, layout):
+def too_many_buffers(random: Random, call: Call, layout: Thing) -> None:
     count = MOST_BUFFERS + random.choice([1, 1, 2, 30]) - len(call["buffers"])
     call["buffers"] += [{"stride": 4, "step": "vertex", "attributes": []} for _ in range(count)]
 
 
-def too_many_attributes(random, call, layout):
+def too_many_attributes(random: Random, call: Call, layout: Thing) -> None:
     fill(random, call["buffers"], limit("maxVertexAttributes") + random.choice([1, 1, 3]))
 
 
-def wrong_stride(random, call, layout):
+def wrong_stride(random: Random, call: Call, layout: Thing) -> None:
     one, _ = some_with_attribute(random, call["buffers"])
     most = limit("maxVertexBufferArrayStride")
     past = [most // 4 * 4 + 4, most // 4 * 4 + 4, most + 1, GREATEST_32 - 3, GREATEST_32]
     one["stride"] = random.choice([one["stride"] + 1, one["stride"] + 2, *past])
 
 
-def wrong_location(random, call, layout):
+def wrong_location(random: Random, call: Call, layout: Thing) -> None:
     some_with_attribute(random, call["buffers"])[1]["location"] = random.choice(
         [limit("maxVertexAttributes")] * 2 + [limit("maxVertexAttributes") + 1, GREATEST_32]
     )
 
 
-def location_twice(random, call, layout):
+def location_twice(random: Random, call: Call, layout: Thing) -> None:
     _, attribute = some_with_attribute(random, call["buffers"])
     buffers = [one for one in call["buffers"] if len(one["attributes"]) < 3] or call["buffers"]
     random.choice(buffers)["attributes"].append({"format": "uint8x2", "offset": 0, "location": attribute["location"]})
 
 
-def past_stride(random, call, layout):
+def past_stride(random: Random, call: Call, layout: Thing) -> None:
     """An attribute that ends behind its stride, just or far; where the stride is 0, behind the greatest one."""
     one, attribute = some_with_attribute(random, call["buffers"])
     if random.random() < 0.3:
@@ -144,7 +154,7 @@ def past_stride(random, call, layout):
     attribute["offset"] = random.choice([first, first, first, room, GREATEST_32 - 3, GREATEST_32])
 
 
-def wrong_offset(random, call, layout):
+def wrong_offset(random: Random, call: Call, layout: Thing) -> None:
     """An offset that is no multiple of 4, or of 2, in a stride that has room for it."""
     one, attribute = some_with_attribute(random, call["buffers"])
     one["stride"] = random.choice([64, 0])
@@ -153,16 +163,16 @@ def wrong_offset(random, call, layout):
     attribute["offset"] += random.choice([1, 2, 2, 3])
 
 
-def too_many_targets(random, call, layout):
+def too_many_targets(random: Random, call: Call, layout: Thing) -> None:
     count = MOST_COLORS + random.choice([1, 1, 5]) - len(call["targets"])
     call["targets"] += [random.choice([None, "rgba8unorm"])] * count
 
 
-def no_color(random, call, layout):
+def no_color(random: Random, call: Call, layout: Thing) -> None:
     call["targets"] = [*call["targets"][:MOST_COLORS - 1], random.choice(DEPTH_FORMATS)]
 
 
-def wrong_depth(random, call, layout):
+def wrong_depth(random: Random, call: Call, layout: Thing) -> None:
     """A color, or a format of which an aspect is written that it lacks."""
     kind = random.randrange(3)
     if kind == 0:
@@ -177,16 +187,16 @@ def wrong_depth(random, call, layout):
         }
 
 
-def nothing_drawn_to(random, call, layout):
+def nothing_drawn_to(random: Random, call: Call, layout: Thing) -> None:
     call.pop("depth", None)
     call["targets"] = [None] * random.choice([0, 0, 1, MOST_COLORS])
 
 
-def wrong_samples(random, call, layout):
+def wrong_samples(random: Random, call: Call, layout: Thing) -> None:
     call["samples"] = random.choice([0, 2, 3, 5, 8, GREATEST_32])
 
 
-def one_sample_format(random, call, layout):
+def one_sample_format(random: Random, call: Call, layout: Thing) -> None:
     """Four samples of a format that has them not, which may be one of several."""
     call["samples"] = 4
     call["targets"] = [*[format for format in call["targets"] if format not in ONE_COLORS][:MOST_COLORS - 1], random.choice(ONE_COLORS)]

@@ -1,6 +1,15 @@
 """Places in textures and layouts of texels: good ones, often just within, and ways to miss one rule by one."""
 
+from __future__ import annotations
+
+from typing import TYPE_CHECKING
+
 from .resources import DEPTH_FORMATS, layers_of
+
+if TYPE_CHECKING:
+    from random import Random
+
+    from .handed import Call, SpotFault
 
 TEXELS = {
     "r8unorm": 1, "rg8unorm": 2, "rgba8unorm": 4, "rgba8unorm-srgb": 4, "bgra8unorm": 4, "r32uint": 4, "r32float": 4, "rgba16float": 8,
@@ -11,7 +20,7 @@ TEXELS = {
 GREATEST = 2**32 - 1
 
 
-def extent(texture, mip):
+def extent(texture: Call, mip: int) -> list[int]:
     """The extent of a mip level; of one that the texture lacks, some small extent."""
     shift = min(mip, 40)
     width, height, depth = texture["size"]
@@ -20,12 +29,12 @@ def extent(texture, mip):
     return [max(width >> shift, 1), max(height >> shift, 1), max(layers_of(texture), 1)]
 
 
-def needs_whole(texture):
+def needs_whole(texture: Call) -> bool:
     """Depth, stencil and multisampled textures are copied in whole width and height."""
     return texture["format"] in DEPTH_FORMATS or texture["samples"] == 4
 
 
-def region(random, texture, mip=None):
+def region(random: Random, texture: Call, mip: int | None = None) -> tuple[int, list[int], list[int]]:
     """A mip level, an origin and a size that are in the texture."""
     mip = random.randrange(max(min(texture["mips"], 20), 1)) if mip is None else mip
     origin, size = [], []
@@ -43,13 +52,13 @@ def region(random, texture, mip=None):
     return mip, origin, size
 
 
-def no_mip(random, texture, spot):
+def no_mip(random: Random, texture: Call, spot: Call) -> None:
     spot["mip"] = texture["mips"]
 
 
-def past(at, by_size):
+def past(at: int, by_size: bool) -> SpotFault:
     """One more than the extent, in size or in origin."""
-    def change(random, texture, spot):
+    def change(random: Random, texture: Call, spot: Call) -> None:
         length = extent(texture, spot["mip"])[at]
         if by_size:
             spot["size"][at] = length - min(spot["origin"][at], length) + 1
@@ -58,16 +67,16 @@ def past(at, by_size):
     return change
 
 
-def part_of(at, by_size):
+def part_of(at: int, by_size: bool) -> SpotFault:
     """One less than the whole width or height, at its begin or its end."""
-    def change(random, texture, spot):
+    def change(random: Random, texture: Call, spot: Call) -> None:
         length = extent(texture, spot["mip"])[at]
         spot["size"][at] = length - 1
         spot["origin"][at] = 0 if by_size else 1
     return change
 
 
-def huge(random, texture, spot):
+def huge(random: Random, texture: Call, spot: Call) -> None:
     """The greatest numbers of 32 bits, whose sums have more."""
     key = random.choice(["mip", "origin", "size", "both"])
     at = random.randrange(3)
@@ -83,17 +92,17 @@ SPOT_FAULTS = [no_mip, huge] + [past(at, by_size) for at in range(3) for by_size
 WHOLE_FAULTS = [part_of(at, by_size) for at in range(2) for by_size in (False, True)]
 
 
-def spoil_spot(random, texture, spot):
+def spoil_spot(random: Random, texture: Call, spot: Call) -> None:
     """Leaves rule 258 or 207 unmet by one."""
     faults = SPOT_FAULTS + (WHOLE_FAULTS * 2 if needs_whole(texture) else [])
     random.choice(faults)(random, texture, spot)
 
 
-def round_up(number, step):
+def round_up(number: int, step: int) -> int:
     return -(-number // step) * step
 
 
-def layout(random, texel, size, step):
+def layout(random: Random, texel: int, size: list[int], step: int) -> Call:
     """bytesPerRow, a multiple of the step, and rowsPerImage: left out where they may be, and often the least that is right."""
     width, height, depth = size
     found = {}
@@ -106,7 +115,7 @@ def layout(random, texel, size, step):
     return found
 
 
-def bytes_of(spot, texel):
+def bytes_of(spot: Call, texel: int) -> int:
     """The bytes that a layout takes; a foretaste, the model finds them apart."""
     width, height, depth = spot["size"]
     if depth == 0:
@@ -116,7 +125,7 @@ def bytes_of(spot, texel):
     return row * rows * (depth - 1) + last
 
 
-def spoil_layout(random, spot, texel, step):
+def spoil_layout(random: Random, spot: Call, texel: int, step: int) -> None:
     """Leaves the layout wrong by one, where it can be."""
     width, height, depth = spot["size"]
     fault = random.randrange(5)

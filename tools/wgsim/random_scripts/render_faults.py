@@ -2,10 +2,13 @@
 its end, on an encoder of some name; what it needs is made before. Many do so too of the calls of a bundle encoder, from its making to its
 finish."""
 
+from __future__ import annotations
+
 import copy
+from typing import TYPE_CHECKING, Callable
 
 from .bundle_faults import CREATE_FAULTS, EXECUTE_FAULTS
-from .dispatching import INDIRECT, buffers_in, named, size_of
+from .dispatching import INDIRECT, buffers_in, known, named, size_of
 from .drawing import INDEX, INDIRECT_BYTES, VERTEX, add_render_pipeline, new_render_pipeline
 from .grouping import pipeline_layout_of
 from .pass_faults import (
@@ -16,13 +19,19 @@ from .query_faults import QUERY_FAULTS
 from .resources import COLOR_FORMATS, DEPTH_FORMATS
 from .targets import ASPECTS_OF, FOUR_COLORS, MOST_COLORS, LOADS, STORES
 
+if TYPE_CHECKING:
+    from random import Random
+
+    from .handed import Call, Change, Fault
+    from .world import Thing, World
+
 DRAWS = WORK[2:]
 ONE_COLORS = [format for format in COLOR_FORMATS if format not in FOUR_COLORS]
 
 
-def change_begin(change):
+def change_begin(change: Change) -> Fault:
     """A fault of the begin of a pass that attaches something: made of a function of the world and the begin, which may change all of it."""
-    def fault(world, encoder, on, calls):
+    def fault(world: World, encoder: str, on: str, calls: list[Call]) -> None:
         if attached(calls[0]):
             begin = copy.deepcopy(calls[0])
             change(world, begin)
@@ -32,7 +41,7 @@ def change_begin(change):
     return fault
 
 
-def mend_slices(world, begin):
+def mend_slices(world: World, begin: Call) -> None:
     """Slices are given where another view is attached that is 3d, and are not given where it is not; so that the fault is what was
     wanted."""
     for color in begin["colors"]:
@@ -43,16 +52,16 @@ def mend_slices(world, begin):
                 color["depthSlice"] = 0
 
 
-def dim_at(world, name):
+def dim_at(world: World, name: str) -> str:
     """The dimension of the texture of a view."""
     view = named(world.views, name)
-    return view.texture.call["dim"] if hasattr(view, "texture") else "2d"
+    return view.texture.call["dim"] if view is not None and hasattr(view, "texture") else "2d"
 
 
-def change_slices(change):
+def change_slices(change: Callable[[World, Call, list[Call]], Call | None]) -> Fault:
     """A fault of the slices of a begin, of which some are given wrongly and stay so."""
     @change_begin
-    def fault(world, begin):
+    def fault(world: World, begin: Call) -> None:
         colors = [color for color in begin["colors"] if color is not None]
         if colors:
             changed = change(world, begin, colors)
@@ -64,9 +73,9 @@ def change_slices(change):
     return without_marks(fault)
 
 
-def without_marks(fault):
+def without_marks(fault: Fault) -> Fault:
     """A fault that leaves no mark of its own in the begin."""
-    def unmarked(world, encoder, on, calls):
+    def unmarked(world: World, encoder: str, on: str, calls: list[Call]) -> None:
         fault(world, encoder, on, calls)
         for color in calls[0].get("colors", []):
             if color is not None:
@@ -74,14 +83,14 @@ def without_marks(fault):
     return unmarked
 
 
-def with_volume(world, begin, colors):
+def with_volume(world: World, begin: Call, colors: list[Call]) -> Call:
     """A color of the begin that is a slice; where there is none one is attached beside the others, or in place of one."""
     random = world.random
     found = [color for color in colors if dim_at(world, color["view"]) == "3d"]
     if found:
         return random.choice(found)
     width, height, samples, format = size_at(world, colors[0]["view"])
-    texture = {"size": [width, height, random.choice([1, 2, 4])], "usage": 23, "format": format, "dim": "3d", "mips": 1, "samples": 1}
+    texture: Call = {"size": [width, height, random.choice([1, 2, 4])], "usage": 23, "format": format, "dim": "3d", "mips": 1, "samples": 1}
     view = new_view(world, texture, {"mips": 1})
     color = {"view": view.name, "depthSlice": random.randrange(texture["size"][2]), "load": "clear", "store": "store"}
     if samples == 4:
@@ -94,14 +103,14 @@ def with_volume(world, begin, colors):
     return color
 
 
-def slices_at(world, name):
+def slices_at(world: World, name: str) -> int:
     """How many slices the mip level has that a 3d view attaches."""
-    view = named(world.views, name)
+    view = known(world.views, name)
     return max(view.texture.call["size"][2] >> view.of[1]["baseMip"], 1)
 
 
 @change_slices
-def wrong_slice(world, begin, colors):
+def wrong_slice(world: World, begin: Call, colors: list[Call]) -> Call:
     """Rule 308: a slice that the mip level does not have, or none, or one of a view that is not 3d."""
     random = world.random
     if random.random() < 0.25:
@@ -112,7 +121,7 @@ def wrong_slice(world, begin, colors):
     if random.random() < 0.3:
         color.pop("depthSlice", None)
     else:
-        whole = named(world.views, color["view"]).texture.call["size"][2]
+        whole = known(world.views, color["view"]).texture.call["size"][2]
         color["depthSlice"] = random.choice(
             [slices_at(world, color["view"])] * 3 + [slices_at(world, color["view"]) + 1, whole - 1, whole, 2**31, GREATEST_32]
         )
@@ -120,12 +129,12 @@ def wrong_slice(world, begin, colors):
 
 
 @change_slices
-def slice_twice(world, begin, colors):
+def slice_twice(world: World, begin: Call, colors: list[Call]) -> None:
     """Rule 306 on slices: one twice by one view or two, or of a texture that is a resolve view too; and slices beside each other, which may
     be."""
     random = world.random
     color = with_volume(world, begin, colors)
-    view, count = named(world.views, color["view"]), slices_at(world, color["view"])
+    view, count = known(world.views, color["view"]), slices_at(world, color["view"])
     name = color["view"] if random.random() < 0.5 else volume_view(world, view, random.random() < 0.2)
     several = [other for other in begin["colors"] if other is not None and other is not color]
     if several and random.random() < 0.35:
@@ -140,37 +149,37 @@ def slice_twice(world, begin, colors):
     return None
 
 
-def volume_view(world, view, is_whole):
+def volume_view(world: World, view: Thing, is_whole: bool) -> str:
     """Another view of the mip level of a 3d texture, or one of all of its levels."""
     mip = view.of[1]["baseMip"]
     call = {"dim": "3d", "baseMip": 0, "mips": view.texture.call["mips"]} if is_whole else {"dim": "3d", "baseMip": mip, "mips": 1}
-    thing = world.make("v", {"do": "createView", "texture": view.texture.name} | call, True)
+    thing = world.make("v", {"do": "createView", "texture": view.texture.name, **call}, True)
     thing.texture, thing.of = view.texture, (view.texture, call)
     world.views.append(thing)
     return thing.name
 
 
-def attached(begin):
+def attached(begin: Call) -> list[tuple[Call, str]]:
     """The objects of a begin that have a view, each with the key under which it has one."""
     colors = [color for color in begin["colors"] if color is not None]
     found = [(color, "view") for color in colors] + [(color, "resolve") for color in colors if "resolve" in color]
     return found + ([(begin["depth"], "view")] if "depth" in begin else [])
 
 
-def size_at(world, name):
+def size_at(world: World, name: str) -> tuple[int, int, int, str]:
     """Width, height, samples and format of what a view attaches."""
-    view = named(world.views, name)
+    view = known(world.views, name)
     texture, mip = view.texture.call, view.of[1]["baseMip"] if hasattr(view, "of") else 0
     return max(texture["size"][0] >> mip, 1), max(texture["size"][1] >> mip, 1), texture["samples"], texture["format"]
 
 
-def view_like(world, name, how=None, is_resolve=False):
+def view_like(world: World, name: str, how: str | None = None, is_resolve: bool = False) -> str:
     """The name of a new view like one that is attached, or that is to be a resolve view of it, but for one thing."""
     random = world.random
     width, height, samples, format = size_at(world, name)
     samples = 1 if is_resolve else samples
     is_depth = format in DEPTH_FORMATS
-    texture = {
+    texture: Call = {
         "size": [width, height, 1],
         "usage": 23 if samples == 1 else 20,
         "format": format,
@@ -178,7 +187,7 @@ def view_like(world, name, how=None, is_resolve=False):
         "mips": 1,
         "samples": samples,
     }
-    view = {"dim": "2d", "baseMip": 0, "mips": 1, "baseLayer": 0, "layers": 1}
+    view: Call = {"dim": "2d", "baseMip": 0, "mips": 1, "baseLayer": 0, "layers": 1}
     if how == "usage":
         texture["usage"] = 7
         texture["samples"] = 1
@@ -217,7 +226,7 @@ def view_like(world, name, how=None, is_resolve=False):
     return new_view(world, texture, view).name
 
 
-def other_color(random, format, samples):
+def other_color(random: Random, format: str, samples: int) -> str:
     """Another color format, often the one that differs in `-srgb` alone."""
     twin = {"rgba8unorm": "rgba8unorm-srgb", "rgba8unorm-srgb": "rgba8unorm"}.get(format)
     if twin and random.random() < 0.6:
@@ -225,23 +234,23 @@ def other_color(random, format, samples):
     return random.choice([other for other in (FOUR_COLORS if samples == 4 else COLOR_FORMATS) if other != format])
 
 
-def new_view(world, texture, view):
+def new_view(world: World, texture: Call, view: Call) -> Thing:
     made = world.texture_as(texture["usage"] != 0, texture)
-    thing = world.make("v", {"do": "createView", "texture": made.name} | view, made.good and view["mips"] == texture["mips"])
+    thing = world.make("v", {"do": "createView", "texture": made.name, **view}, made.good and view["mips"] == texture["mips"])
     thing.texture, thing.of = made, (made, {"baseMip": 0})
     world.views.append(thing)
     return thing
 
 
 @change_begin
-def invalid_view(world, begin):
+def invalid_view(world: World, begin: Call) -> None:
     item, key = world.random.choice(attached(begin))
     bad = [thing for thing in world.views if not thing.good]
     item[key] = world.random.choice(bad).name if bad and world.random.random() < 0.3 else view_like(world, item[key], "invalid")
 
 
 @change_begin
-def too_many_colors(world, begin):
+def too_many_colors(world: World, begin: Call) -> None:
     """One more than there may be, by nulls or by what is attached twice then."""
     random = world.random
     count = MOST_COLORS + random.choice([1, 1, 1, 2, 40]) - len(begin["colors"])
@@ -249,13 +258,13 @@ def too_many_colors(world, begin):
 
 
 @change_begin
-def nothing_attached(world, begin):
+def nothing_attached(world: World, begin: Call) -> None:
     begin.pop("depth", None)
     begin["colors"] = [None] * world.random.choice([0, 1, 8, 9])
 
 
 @change_begin
-def wrong_color(world, begin):
+def wrong_color(world: World, begin: Call) -> None:
     """Rule 302, at times of a color beside others."""
     colors = [color for color in begin["colors"] if color is not None]
     if not colors or world.random.random() < 0.2 and len(begin["colors"]) < MOST_COLORS:
@@ -266,7 +275,7 @@ def wrong_color(world, begin):
 
 
 @change_begin
-def wrong_depth(world, begin):
+def wrong_depth(world: World, begin: Call) -> None:
     """Rule 303."""
     if "depth" not in begin:
         add_depth(world, begin)
@@ -274,7 +283,7 @@ def wrong_depth(world, begin):
     begin["depth"]["view"] = view_like(world, begin["depth"]["view"], how)
 
 
-def add_depth(world, begin):
+def add_depth(world: World, begin: Call) -> None:
     """A good depth beside colors, of any format that has one."""
     random = world.random
     width, height, samples, _ = size_at(world, attached(begin)[0][0]["view"])
@@ -284,11 +293,11 @@ def add_depth(world, begin):
     )
     begin["depth"] = {"view": view.name}
     for aspect in ASPECTS_OF[format]:
-        begin["depth"] |= {f"{aspect}Load": random.choice(LOADS), f"{aspect}Store": random.choice(STORES)}
+        begin["depth"].update({f"{aspect}Load": random.choice(LOADS), f"{aspect}Store": random.choice(STORES)})
 
 
 @change_begin
-def wrong_loads(world, begin):
+def wrong_loads(world: World, begin: Call) -> None:
     """Rule 304: what is needed is left out, or what may not be given is given."""
     random = world.random
     if "depth" not in begin:
@@ -311,7 +320,7 @@ def wrong_loads(world, begin):
 
 
 @change_begin
-def wrong_size(world, begin):
+def wrong_size(world: World, begin: Call) -> None:
     """Rule 305: one of several is of another width or height, or of another count of samples."""
     random = world.random
     items = [item for item, key in attached(begin) if key == "view"]
@@ -333,12 +342,12 @@ def wrong_size(world, begin):
 
 
 @change_begin
-def attached_twice(world, begin):
+def attached_twice(world: World, begin: Call) -> None:
     """Rule 306: a color twice, a resolve view that is a color, the depth or another resolve view, or has some of these among others."""
     random = world.random
     items = attached(begin)
     item, key = random.choice(items)
-    view = named(world.views, item[key])
+    view = known(world.views, item[key])
     part = view.of[1] if hasattr(view, "of") else {"baseMip": 0}
     again = item[key]
     if random.random() < 0.6:
@@ -356,7 +365,7 @@ def attached_twice(world, begin):
             random.choice(found)["resolve"] = again
 
 
-def wide_view(world, texture, mip, layer, is_wide):
+def wide_view(world: World, texture: Thing, mip: int, layer: int, is_wide: bool) -> str:
     """A view of a subresource, alone or with all others of its texture."""
     call, layers = texture.call, texture.call["size"][2]
     view = {"dim": "2d", "baseMip": mip, "mips": 1, "baseLayer": layer, "layers": 1}
@@ -364,14 +373,14 @@ def wide_view(world, texture, mip, layer, is_wide):
         view = {"dim": "3d", "baseMip": 0 if is_wide else mip, "mips": call["mips"] if is_wide else 1, "baseLayer": 0, "layers": 1}
     elif is_wide and call["samples"] == 1:
         view = {"dim": "2d-array", "baseMip": 0, "mips": call["mips"], "baseLayer": 0, "layers": layers}
-    thing = world.make("v", {"do": "createView", "texture": texture.name} | view, True)
+    thing = world.make("v", {"do": "createView", "texture": texture.name, **view}, True)
     thing.texture, thing.of = texture, (texture, view)
     world.views.append(thing)
     return thing.name
 
 
 @change_begin
-def wrong_resolve(world, begin):
+def wrong_resolve(world: World, begin: Call) -> None:
     """Rule 307, of a color that has a resolve view, or is given one."""
     random = world.random
     colors = [color for color in begin["colors"] if color is not None]
@@ -383,7 +392,7 @@ def wrong_resolve(world, begin):
     color["resolve"] = view_like(world, color["view"], how if several or random.random() < 0.3 else None, is_resolve=True)
 
 
-def multisampled(world, begin):
+def multisampled(world: World, begin: Call) -> Call:
     """The begin attaches one color of four samples, and no more."""
     size = [*world.random.choice([[4, 4], [4, 2], [1, 1]]), 1]
     format = world.random.choice(FOUR_COLORS)
@@ -394,7 +403,7 @@ def multisampled(world, begin):
 
 
 @change_begin
-def read_only_pass(world, begin):
+def read_only_pass(world: World, begin: Call) -> None:
     """Aspects of the depth become read-only, which the pipelines may write."""
     depth = begin.get("depth", {})
     for aspect in ("depth", "stencil"):
@@ -405,16 +414,16 @@ def read_only_pass(world, begin):
 
 
 @change_call("setPipeline")
-def invalid_render_pipeline(world, call):
+def invalid_render_pipeline(world: World, call: Call) -> None:
     bad = [thing for thing in world.render_pipelines if not thing.good]
     if not bad or world.random.random() < 0.2:
         nothing = {"do": "createRenderPipeline", "iface": [], "buffers": [], "targets": [], "samples": 1}
-        bad = [add_render_pipeline(world, nothing | {"layout": pipeline_layout_of(world, [], True).name}, False)]
+        bad = [add_render_pipeline(world, {**nothing, "layout": pipeline_layout_of(world, [], True).name}, False)]
     call["pipeline"] = world.random.choice(bad).name
 
 
 @change_call("setPipeline")
-def other_targets(world, call):
+def other_targets(world: World, call: Call) -> None:
     """A pipeline that agrees with the pass but for one thing."""
     random, thing = world.random, named(world.render_pipelines, call["pipeline"])
     if thing is None or thing.layouts is None:
@@ -428,8 +437,8 @@ def other_targets(world, call):
     elif kind == 1 and len(formats) < MOST_COLORS:
         formats.insert(random.randint(0, len(formats)), random.choice([None, None, random.choice(FOUR_COLORS)]))
     elif kind == 2 and any(formats):
-        at = random.choice([at for at, format in enumerate(formats) if format is not None])
-        formats[at] = random.choice([None, other_color(random, formats[at], samples)])
+        at, format = random.choice([(at, format) for at, format in enumerate(formats) if format is not None])
+        formats[at] = random.choice([None, other_color(random, format, samples)])
     elif kind == 3:
         depth = random.choice([format for format in DEPTH_FORMATS if format != depth])
     elif kind == 4 and depth is not None:
@@ -443,42 +452,42 @@ def other_targets(world, call):
         call["pipeline"] = new_render_pipeline(world, layouts, formats, depth, samples, set()).name
 
 
-def writing_pipeline(world, encoder, on, calls):
+def writing_pipeline(world: World, encoder: str, on: str, calls: list[Call]) -> None:
     """A pipeline that may write what is read-only."""
     other_writes(world, encoder, on, calls)
     read_only_pass(world, encoder, on, calls)
 
 
 @change_call("setPipeline")
-def other_writes(world, call):
+def other_writes(world: World, call: Call) -> None:
     thing = named(world.render_pipelines, call["pipeline"])
     if thing is not None and thing.layouts is not None and thing.signature[1] is not None:
         layouts = [layout for layout in thing.layouts if not layout.dropped]
         call["pipeline"] = new_render_pipeline(world, layouts, thing.signature[0], *thing.signature[1:], set()).name
 
 
-def range_faults(word, bit, step):
+def range_faults(word: str, bit: int, step: int) -> list[Fault]:
     """The faults of a setVertexBuffer or setIndexBuffer, in the order of its rules."""
     @change_call(word)
-    def invalid(world, call):
+    def invalid(world: World, call: Call) -> None:
         call["buffer"] = world.buffer(good=False).name
 
     @change_call(word)
-    def usage(world, call):
+    def usage(world: World, call: Call) -> None:
         call["buffer"] = world.buffer(size=1024, usage=12 | world.random.choice([0, VERTEX + INDEX - bit])).name
 
     @change_call(word)
-    def slot(world, call):
+    def slot(world: World, call: Call) -> None:
         if "slot" in call:
             call["slot"] = world.random.choice([8, 8, 8, 9, GREATEST_32])
 
     @change_call(word)
-    def offset(world, call):
+    def offset(world: World, call: Call) -> None:
         """Of an index buffer it may be aligned by 2, which is good for one of the formats."""
         call["offset"] = min(call.get("offset", 0) + world.random.choice([1, 2, 2, 2, 3]), GREATEST_53)
 
     @change_call(word)
-    def past(world, call):
+    def past(world: World, call: Call) -> None:
         random, size = world.random, min(size_of(world, call["buffer"]), 2**28)
         first = min(call.get("offset", 0), 2**28)
         kind = random.randrange(4)
@@ -497,29 +506,29 @@ def range_faults(word, bit, step):
     return [invalid, usage, offset, past] + ([slot] if word == "setVertexBuffer" else [])
 
 
-def gone(word):
+def gone(word: str) -> Fault:
     """A call that sets something is left out; so what was set before counts, or nothing."""
-    def fault(world, encoder, on, calls):
+    def fault(world: World, encoder: str, on: str, calls: list[Call]) -> None:
         call = some_call(world.random, calls, word)
         if call is not None:
             calls.remove(call)
     return fault
 
 
-def all_gone(word):
+def all_gone(word: str) -> Fault:
     """Nothing of a kind is set."""
-    def fault(world, encoder, on, calls):
+    def fault(world: World, encoder: str, on: str, calls: list[Call]) -> None:
         calls[:] = [call for call in calls if call["do"] != word]
     return fault
 
 
 @change_call("setVertexBuffer")
-def other_slot(world, call):
+def other_slot(world: World, call: Call) -> None:
     call["slot"] = (call["slot"] + 1) % 8
 
 
 @change_call("setVertexBuffer", "setIndexBuffer")
-def less_set(world, call):
+def less_set(world: World, call: Call) -> None:
     """A range that is too short for what is drawn, or empty."""
     size = size_of(world, call["buffer"])
     call["size"] = world.random.choice([0, 1, 2, 3, 4, 15])
@@ -527,27 +536,27 @@ def less_set(world, call):
 
 
 @change_call("setIndexBuffer")
-def other_format(world, call):
+def other_format(world: World, call: Call) -> None:
     call["format"] = {"uint16": "uint32", "uint32": "uint16"}[call["format"]]
 
 
 @change_call("draw", "drawIndexed")
-def huge_numbers(world, call):
+def huge_numbers(world: World, call: Call) -> None:
     """Sums and products past 32 bits."""
     for key in world.random.sample(["vertices" if call["do"] == "draw" else "indices", "instances", "firstInstance"], 2):
         call[key] = world.random.choice([GREATEST_32, GREATEST_32, 2**31, 2**30])
 
 
 @change_call("draw", "drawIndexed")
-def first_more(world, call):
+def first_more(world: World, call: Call) -> None:
     """One element more, which may be good, also of a draw of nothing."""
     key = world.random.choice(["firstVertex" if call["do"] == "draw" else "firstIndex", "firstInstance"])
     call[key] = min(call.get(key, 0) + 1, GREATEST_32)
 
 
-def indirect(change):
+def indirect(change: Change) -> Fault:
     """A fault of an indirect draw, which may stand in place of another one."""
-    def fault(world, encoder, on, calls):
+    def fault(world: World, encoder: str, on: str, calls: list[Call]) -> None:
         found = places(calls, *DRAWS)
         if found:
             at = first_or_any(world.random, found)
@@ -565,39 +574,39 @@ def indirect(change):
 
 
 @indirect
-def indirect_invalid(world, call):
+def indirect_invalid(world: World, call: Call) -> None:
     call["buffer"] = world.buffer(good=False).name
 
 
 @indirect
-def indirect_usage(world, call):
+def indirect_usage(world: World, call: Call) -> None:
     call["buffer"] = world.buffer(size=world.random.choice([12, 16, 20, 64]), usage=12 | world.random.choice([0, 16, 32, 64, 128])).name
 
 
 @indirect
-def indirect_offset(world, call):
+def indirect_offset(world: World, call: Call) -> None:
     call["offset"] = min(call["offset"] + world.random.choice([1, 2, 3]), GREATEST_53)
 
 
 @indirect
-def indirect_past(world, call):
+def indirect_past(world: World, call: Call) -> None:
     size, length = min(size_of(world, call["buffer"]), 2**28) // 4 * 4, INDIRECT_BYTES[call["do"]]
     call["offset"] = world.random.choice([max(size - length + 4, 0), max(size - length + 4, 0), size, GREATEST_53 - 3, GREATEST_53])
 
 
 @indirect
-def indirect_instead(world, call):
+def indirect_instead(world: World, call: Call) -> None:
     """An indirect draw in place of another one, which may be good."""
 
 
-def other_kind(world, encoder, on, calls):
+def other_kind(world: World, encoder: str, on: str, calls: list[Call]) -> None:
     """A draw of vertices becomes one of indices, or the other way; there may be an index buffer for it or not."""
     random = world.random
     call = some_call(random, calls, *DRAWS)
     if call is not None:
         twin = {"draw": "drawIndexed", "drawIndexed": "draw", "drawIndirect": "drawIndexedIndirect", "drawIndexedIndirect": "drawIndirect"}
         keys = {"vertices": "indices", "indices": "vertices", "firstVertex": "firstIndex", "firstIndex": "firstVertex"}
-        calls[calls.index(call)] = {keys.get(key, key): value for key, value in call.items()} | {"do": twin[call["do"]]}
+        calls[calls.index(call)] = {**{keys.get(key, key): value for key, value in call.items()}, "do": twin[call["do"]]}
 
 
 BEGIN_FAULTS = [
@@ -638,7 +647,7 @@ FAULTS = (
 )
 
 
-def spoil_render(world, encoder, on, calls):
+def spoil_render(world: World, encoder: str, on: str, calls: list[Call]) -> None:
     """Faults in a render pass; where there is nothing that they could change, others are tried."""
     for _ in range(4):
         before = [dict(call) for call in calls]
@@ -647,7 +656,7 @@ def spoil_render(world, encoder, on, calls):
             return
 
 
-def faults(world, encoder, on, calls):
+def faults(world: World, encoder: str, on: str, calls: list[Call]) -> None:
     """One fault as a rule, at times two or three, often of one call, so that the order of rules shows."""
     random, kind = world.random, world.random.random()
     if random.random() < world.queries / 2:
@@ -668,12 +677,12 @@ def faults(world, encoder, on, calls):
         fault(world, encoder, on, calls)
 
 
-def writing_in_bundle(world, encoder, on, calls):
+def writing_in_bundle(world: World, encoder: str, on: str, calls: list[Call]) -> None:
     """A pipeline that may write what is read-only in the bundle."""
     other_writes(world, encoder, on, calls)
     for aspect in ("depth", "stencil"):
         if world.random.random() < 0.7:
-            calls[0] = calls[0] | {f"{aspect}ReadOnly": True}
+            calls[0] = {**calls[0], f"{aspect}ReadOnly": True}
 
 
 BUNDLE_FAULTS = (
@@ -690,7 +699,7 @@ BUNDLE_FAULTS = (
 )
 
 
-def spoil_bundle(world, on, calls):
+def spoil_bundle(world: World, on: str, calls: list[Call]) -> None:
     """A fault in the calls of a bundle encoder, or two."""
     random, kind = world.random, world.random.random()
     if kind < 0.25:

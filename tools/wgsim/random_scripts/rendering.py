@@ -1,11 +1,22 @@
 """What is set and drawn in a render pass or on a bundle encoder, in any order that is good."""
 
+from __future__ import annotations
+
+from typing import TYPE_CHECKING, Sequence
+
 from .bindings import is_written
 from .dispatching import bound_by, set_call
 from .drawing import (
     INDIRECT_BYTES, VERTEX, counts_for, draw_call, end_of, index_call, indirect_call, joins, parts_of_group, size_set, some_index_range,
     some_range, some_render_pipeline, stray_settings, vertex_call,
 )
+
+if TYPE_CHECKING:
+    from random import Random
+
+    from .handed import Between, Call, Groups, Now
+    from .targets import Target
+    from .world import Thing, World
 
 DRAWS = ["draw", "drawIndexed", "drawIndirect", "drawIndexedIndirect"]
 INDEXED = ["drawIndexed", "drawIndexedIndirect"]
@@ -18,21 +29,22 @@ class Draw:
     """What a draw is to be: its word, what is to be past the edge (a key of PAST), whether bindings are to overlap, and whether what it
     sets need not agree with the usage scope of its pass."""
 
-    def __init__(self, random, wanted, is_first):
+    def __init__(self, random: Random, wanted: str | None, is_first: bool) -> None:
         self.past = wanted if wanted in PAST and is_first else None
         self.overlaps = wanted == "overlap" and is_first
         self.is_any = wanted == "scope"
         self.word = random.choice(PAST[self.past]) if self.past is not None else random.choices(DRAWS, [4, 4, 2, 2])[0]
 
 
-def drawn(world, on, target, wanted, counts, between=None):
+def drawn(world: World, on: str, target: Target, wanted: str | None, counts: Sequence[int], between: Between | None = None) -> list[Call]:
     """The settings and draws on what is drawn to, with one of so many settings with draws. Between these stand more calls, which unset all,
     if a function gives any.
 
     `wanted` is what is to be wrong with them: `overlap`, `scope`, a key of PAST, or None.
     """
     random = world.random
-    calls, now = [], {}
+    calls: list[Call] = []
+    now: Now = {}
     for number in range(random.choice(counts)):
         more = [] if between is None else between(wanted == "scope")
         if more:
@@ -40,7 +52,9 @@ def drawn(world, on, target, wanted, counts, between=None):
             now = {}
         draw = Draw(random, wanted, number == 0)
         pipeline, groups = ready(world, target, draw)
-        added = None if groups is None else settings(world, on, target, pipeline, groups, now, draw)
+        if pipeline is None or groups is None:
+            continue
+        added = settings(world, on, target, pipeline, groups, now, draw)
         if added is not None:
             free = [index for index in range(4) if index not in groups]
             calls += stray_settings(world, on, target, draw.is_any, list(range(len(pipeline.vertex), 8)), free, now) + added
@@ -49,7 +63,7 @@ def drawn(world, on, target, wanted, counts, between=None):
     return calls + ([] if between is None else between(wanted == "scope"))
 
 
-def ready(world, target, draw):
+def ready(world: World, target: Target, draw: Draw) -> tuple[Thing, Groups] | tuple[None, None]:
     """A pipeline that will do for a draw, with a group and offsets for each index at which it asks for one; or None in place of these."""
     for _ in range(8 if draw.past or draw.overlaps else 1):
         pipeline = some_render_pipeline(world, target, is_new=draw.past is not None)
@@ -60,16 +74,16 @@ def ready(world, target, draw):
     return None, None
 
 
-def will_do(pipeline, draw):
+def will_do(pipeline: Thing, draw: Draw) -> bool:
     """A draw can ask too much of a vertex buffer that steps, and what overlaps is two bindings, of which one is written."""
-    step = {"vertices": "vertex", "instances": "instance"}.get(draw.past)
-    entries = [entry for layout in pipeline.layouts for entry in layout.entries if entry["kind"] != "sampler"]
+    step = {"vertices": "vertex", "instances": "instance"}.get(draw.past) if draw.past is not None else None
+    entries = [entry for layout in pipeline.own_layouts() for entry in layout.entries if entry["kind"] != "sampler"]
     if draw.overlaps and not (len(entries) > 1 and any(is_written(entry) for entry in entries)):
         return False
     return step is None or any(one["step"] == step and one["stride"] > 0 for one in pipeline.vertex)
 
 
-def groups_of(world, target, pipeline, draw):
+def groups_of(world: World, target: Target, pipeline: Thing, draw: Draw) -> Groups | None:
     """A group and offsets for each index at which a pipeline asks for one, that agree with the pass, or None."""
     for _ in range(5):
         found = bound_by(world, pipeline, "overlap" if draw.overlaps else None, None)
@@ -81,10 +95,10 @@ def groups_of(world, target, pipeline, draw):
     return None
 
 
-def settings(world, on, target, pipeline, groups, now, draw):
+def settings(world: World, on: str, target: Target, pipeline: Thing, groups: Groups, now: Now, draw: Draw) -> list[Call] | None:
     """What a draw needs and is not set already, in any order; at times it is set again. None where there is nothing for it."""
     random = world.random
-    found = [("pipeline", pipeline.name, {"do": "setPipeline", "on": on, "pipeline": pipeline.name})]
+    found: list[tuple[object, object, Call]] = [("pipeline", pipeline.name, {"do": "setPipeline", "on": on, "pipeline": pipeline.name})]
     for index, (group, offsets) in groups.items():
         found.append((("group", index), (group.name, offsets), set_call(random, on, index, group, offsets)))
     for slot, one in enumerate(pipeline.vertex):
@@ -108,10 +122,10 @@ def settings(world, on, target, pipeline, groups, now, draw):
     return [call for _, _, call in found]
 
 
-def one_draw(world, on, target, pipeline, now, draw):
+def one_draw(world: World, on: str, target: Target, pipeline: Thing, now: Now, draw: Draw) -> Call:
     """The draw, by what is set. One that is indirect is not where there is no buffer for it."""
     if draw.word in INDIRECT_BYTES:
         thing = counts_for(world, target, draw.word, draw.is_any)
         if thing is not None:
             return indirect_call(world, on, draw.word, thing)
-    return draw_call(world, on, draw.word.removesuffix("Indirect"), pipeline, now, draw.past)
+    return draw_call(world, on, draw.word.replace("Indirect", ""), pipeline, now, draw.past)

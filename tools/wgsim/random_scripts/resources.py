@@ -1,9 +1,17 @@
 """Buffers, textures, views and query sets: good ones, often with a rule just met, and ways to leave one rule unmet by one."""
 
+from __future__ import annotations
+
 import copy
+from typing import TYPE_CHECKING, Any
 
 from .limiting import of as limit
 from model.limits import DEFAULTS
+
+if TYPE_CHECKING:
+    from random import Random
+
+    from .handed import Call, CallFault
 
 COLOR_FORMATS = [
     "r8unorm", "rg8unorm", "rgba8unorm", "rgba8unorm-srgb", "bgra8unorm", "r32uint", "r32float", "rgba16float", "rgba32float",
@@ -17,7 +25,7 @@ ASPECTS = ["all", "depth-only", "stencil-only"]
 VIEW_DIMS = ["1d", "2d", "2d-array", "cube", "cube-array", "3d"]
 
 
-def most_extents(dim):
+def most_extents(dim: str) -> list[int]:
     """The greatest width, height, and depth or layers of a dimension."""
     if dim == "3d":
         return [limit("maxTextureDimension3D")] * 3
@@ -26,14 +34,14 @@ def most_extents(dim):
     return [limit("maxTextureDimension2D"), limit("maxTextureDimension2D"), limit("maxTextureArrayLayers")]
 
 
-def good_buffer(random):
+def good_buffer(random: Random) -> Call:
     greatest = limit("maxBufferSize")
     size = random.choice([0, 4, 7, 8, 16, 16, 16, 32, 64, 256, 1024, 4096, 65536, greatest])
     usage = random.choice([12, 12, 12, 12, 12, 4, 8, 1, 2, 9, 6, 1020, 12 + 16 * random.randrange(64)])
     call = {"do": "createBuffer", "size": size, "usage": usage}
     if random.random() < 0.08 and size % 4 == 0 and size < DEFAULTS["maxBufferSize"]:
-        return call | {"mapped": True}
-    return call | {"mapped": False} if random.random() < 0.1 else call
+        return {**call, "mapped": True}
+    return {**call, "mapped": False} if random.random() < 0.1 else call
 
 
 BUFFER_FAULTS = [
@@ -47,14 +55,14 @@ BUFFER_FAULTS = [
 ]
 
 
-def most_mips(dim, size):
+def most_mips(dim: str, size: list[int]) -> int:
     """The greatest count of mip levels."""
     if dim == "1d":
         return 1
     return max(size if dim == "3d" else size[:2]).bit_length()
 
 
-def extents(random, dim):
+def extents(random: Random, dim: str) -> list[int]:
     """Width, height, and depth or layers: small as a rule, so that copies meet, and now and then at the limit."""
     small = [1, 1, 2, 3, 4, 4, 5, 7, 8, 16]
     size = [random.choice(small) for _ in range(3)]
@@ -68,7 +76,9 @@ def extents(random, dim):
     return [max(size[0], 1), 1, 1] if dim == "1d" else [max(length, 1) for length in size]
 
 
-def good_texture(random, dim=None, samples=None, format=None, usage=None):
+def good_texture(
+    random: Random, dim: str | None = None, samples: int | None = None, format: str | None = None, usage: int | None = None
+) -> Call:
     """A createTexture with all its keys."""
     dim = dim or random.choices(["1d", "2d", "3d"], [2, 8, 3])[0]
     samples = samples or (4 if dim == "2d" and random.random() < 0.08 else 1)
@@ -87,32 +97,32 @@ def good_texture(random, dim=None, samples=None, format=None, usage=None):
     return {"do": "createTexture", "size": size, "usage": usage, "format": format, "dim": dim, "mips": mips, "samples": samples}
 
 
-def past_limit(at):
-    def change(random, call):
+def past_limit(at: int) -> CallFault:
+    def change(random: Random, call: Call) -> None:
         call["size"][at] = most_extents(call["dim"])[at] + 1
     return change
 
 
-def no_extent(at):
-    def change(random, call):
+def no_extent(at: int) -> CallFault:
+    def change(random: Random, call: Call) -> None:
         call["size"][at] = 0
     return change
 
 
-def four_samples(**values):
-    def change(random, call):
+def four_samples(**values: Any) -> CallFault:
+    def change(random: Random, call: Call) -> None:
         call.update(good_texture(random, dim="2d", samples=4))
         call.update(copy.deepcopy(values))
     return change
 
 
-def more_of(**values):
-    def change(random, call):
+def more_of(**values: Any) -> CallFault:
+    def change(random: Random, call: Call) -> None:
         call.update(copy.deepcopy(values))
     return change
 
 
-def not_color(random, call):
+def not_color(random: Random, call: Call) -> None:
     dim = random.choice(["1d", "3d"])
     call.update(good_texture(random, dim=dim))
     call.update(format=random.choice(DEPTH_FORMATS))
@@ -132,11 +142,11 @@ TEXTURE_FAULTS = [
 ]
 
 
-def layers_of(texture):
+def layers_of(texture: Call) -> int:
     return texture["size"][2] if texture["dim"] == "2d" else 1
 
 
-def good_view(random, texture):
+def good_view(random: Random, texture: Call) -> Call:
     """A createView of a texture, with some keys left out."""
     layers, square = layers_of(texture), texture["size"][0] == texture["size"][1]
     dims = [texture["dim"]]
@@ -153,19 +163,19 @@ def good_view(random, texture):
     return without_some(random, call, ["dim", "mips", "baseMip", "baseLayer", "layers"])
 
 
-def without_some(random, call, keys):
+def without_some(random: Random, call: Call, keys: list[str]) -> Call:
     """Leaves some keys out, mostly none."""
     if random.random() < 0.5:
         return call
     return {key: value for key, value in call.items() if key not in keys or random.random() < 0.5}
 
 
-def mips_past(random, call, texture):
+def mips_past(random: Random, call: Call, texture: Call) -> None:
     base = random.randrange(texture["mips"] + 1)
     call.update(baseMip=base, mips=texture["mips"] - base + 1)
 
 
-def layers_past(random, call, texture):
+def layers_past(random: Random, call: Call, texture: Call) -> None:
     base = random.randrange(layers_of(texture) + 1)
     call.update(baseLayer=base, layers=layers_of(texture) - base + 1)
 
@@ -189,7 +199,7 @@ VIEW_FAULTS = [
 ]
 
 
-def good_query_set(random):
+def good_query_set(random: Random) -> Call:
     """Few queries as a rule; now and then none, or as many as there may be."""
     return {"do": "createQuerySet", "count": random.choice([1, 2, 2, 2, 3, 3, 4, 5, 8, 33, 0, MOST_QUERIES - 1, MOST_QUERIES])}
 

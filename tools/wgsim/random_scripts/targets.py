@@ -1,8 +1,16 @@
 """What is attached to render passes: textures of a few sizes, views of one mip level and layer or slice, and begins of good passes."""
 
+from __future__ import annotations
+
+from typing import TYPE_CHECKING, Any, Sequence
+
 from .dispatching import pooled, view_of
 from .regions import extent
 from .resources import COLOR_FORMATS, DEPTH_FORMATS, STORAGE_FORMATS, most_mips
+
+if TYPE_CHECKING:
+    from .handed import Call, Cell, Signature, Spot, Uses
+    from .world import Thing, World
 
 RENDER_ATTACHMENT = 16
 LOADS, STORES = ["load", "clear"], ["store", "discard"]
@@ -22,7 +30,7 @@ class Target:
     """A render pass: the call that begins it, the formats of its colors (None of one that is null), the format of its depth or None,
     its samples, which aspects are read-only, and by which role each part is used so far: `read`, `storage` or `attachment`."""
 
-    def __init__(self, begin, formats, depth, samples, read_only, uses):
+    def __init__(self, begin: Call, formats: list[str | None], depth: str | None, samples: int, read_only: set[str], uses: Uses) -> None:
         self.begin = begin
         self.formats = formats
         self.depth = depth
@@ -31,11 +39,11 @@ class Target:
         self.uses = uses
         self.clashes = False
 
-    def signature(self):
+    def signature(self) -> Signature:
         return signature(self.formats, self.depth, self.samples)
 
 
-def signature(formats, depth, samples):
+def signature(formats: Sequence[str | None], depth: str | None, samples: int) -> Signature:
     """What a pipeline and a pass have in common that agree; nulls at the end do not count."""
     formats = list(formats)
     while formats and formats[-1] is None:
@@ -43,7 +51,7 @@ def signature(formats, depth, samples):
     return tuple(formats), depth, samples
 
 
-def target_pool(world):
+def target_pool(world: World) -> None:
     """The textures that passes of a script draw to: a few of a size, or with a mip level of it, of one or of four samples."""
     random = world.random
     for _ in range(random.choice([1, 2, 2, 3])):
@@ -54,7 +62,7 @@ def target_pool(world):
         multisampled_pool(world)
 
 
-def multisampled_pool(world):
+def multisampled_pool(world: World) -> None:
     """A texture of four samples, often one that it can be resolved to, and at times a depth."""
     random = world.random
     format, size = random.choice(FOUR_COLORS), random.choice(SIZES)
@@ -70,7 +78,7 @@ def multisampled_pool(world):
         pool_target(world, random.choice(DEPTH_FORMATS), 4, size)
 
 
-def pool_target(world, format=None, samples=None, size=None):
+def pool_target(world: World, format: str | None = None, samples: int | None = None, size: list[int] | None = None) -> Thing:
     random = world.random
     samples = samples or 1
     format = format or random.choice(COLOR_FORMATS + ["rgba8unorm"] * 4)
@@ -84,7 +92,9 @@ def pool_target(world, format=None, samples=None, size=None):
     return world.texture_as(True, {"size": size, "usage": usage, "format": format, "dim": dim, "mips": mips, "samples": samples})
 
 
-def spots(world, formats, samples=None, size=None, dims=("2d", "3d")):
+def spots(
+    world: World, formats: Sequence[str], samples: int | None = None, size: list[int] | None = None, dims: Sequence[str] = ("2d", "3d")
+) -> list[Spot]:
     """What can be attached: a texture, a mip level and a layer, or a slice of a 3d one, of one of some formats, of a count of samples, and
     of a size. Of many slices there are some."""
     found = []
@@ -101,11 +111,11 @@ def spots(world, formats, samples=None, size=None, dims=("2d", "3d")):
     return found
 
 
-def attached_view(world, spot, **wanted):
+def attached_view(world: World, spot: Spot, **wanted: Any) -> Thing:
     """A view of one mip level and layer, or of a 3d texture of one mip level, but for what is wanted otherwise."""
     random, (thing, mip, layer) = world.random, spot
     if thing.call["dim"] == "3d":
-        return view_of(world, thing, {"dim": "3d", "aspect": "all", "baseMip": mip, "mips": 1, "baseLayer": 0, "layers": 1} | wanted)
+        return view_of(world, thing, {"dim": "3d", "aspect": "all", "baseMip": mip, "mips": 1, "baseLayer": 0, "layers": 1, **wanted})
     call = {
         "dim": random.choice(["2d", "2d", "2d", "2d-array"]),
         "aspect": "all",
@@ -118,17 +128,17 @@ def attached_view(world, spot, **wanted):
         call["dim"] = "2d"
     if random.random() < 0.2:
         call["aspect"] = ONE_ASPECT.get(thing.call["format"], "all")
-    return view_of(world, thing, call | wanted)
+    return view_of(world, thing, {**call, **wanted})
 
 
-def parts_of(spot):
+def parts_of(spot: Spot) -> list[Cell]:
     thing, mip, layer = spot
     if thing.call["dim"] == "3d":
         return [("t", thing.name, "color", mip, 0)]
     return [("t", thing.name, aspect, mip, layer) for aspect in ASPECTS_OF.get(thing.call["format"], ["color"])]
 
 
-def begin(world, encoder, name):
+def begin(world: World, encoder: str | None, name: str) -> Target:
     """A good pass of some of what is there, or of what is new."""
     random = world.random
     every = spots(world, COLOR_FORMATS + DEPTH_FORMATS)
@@ -147,7 +157,7 @@ def begin(world, encoder, name):
     chosen += others[:random.choice([0, 0, 1, 2, 7])]
     chosen = chosen[:MOST_COLORS]
     taken |= set(chosen)
-    items = [(color(world, spot, size, taken, uses), spot[0].call["format"]) for spot in chosen]
+    items: list[tuple[Call | None, str | None]] = [(color(world, spot, size, taken, uses), spot[0].call["format"]) for spot in chosen]
     if items or first in chosen:
         for _ in range(random.choice([0, 0, 0, 0, 1, 2, MOST_COLORS])):
             if len(items) < MOST_COLORS:
@@ -160,10 +170,10 @@ def begin(world, encoder, name):
     return target
 
 
-def color(world, spot, size, taken, uses):
+def color(world: World, spot: Spot, size: list[int], taken: set[Spot], uses: Uses) -> Call:
     """An item of `colors`, with a resolve view where there is something for it."""
     random = world.random
-    found = {"view": attached_view(world, spot).name, "load": random.choice(LOADS), "store": random.choice(STORES)}
+    found: Call = {"view": attached_view(world, spot).name, "load": random.choice(LOADS), "store": random.choice(STORES)}
     if spot[0].call["dim"] == "3d":
         found["depthSlice"] = spot[2]
     uses.update({part: "attachment" for part in parts_of(spot)})
@@ -177,9 +187,9 @@ def color(world, spot, size, taken, uses):
     return found
 
 
-def attach_depth(world, target, spot):
+def attach_depth(world: World, target: Target, spot: Spot) -> None:
     random, format = world.random, spot[0].call["format"]
-    depth = {"view": attached_view(world, spot).name}
+    depth: Call = {"view": attached_view(world, spot).name}
     for aspect in ("depth", "stencil"):
         if aspect not in ASPECTS_OF[format]:
             if random.random() < 0.25:

@@ -3,11 +3,21 @@
 Both have error scopes, promises and mapped buffers; some lose their device, mostly late.
 """
 
+from __future__ import annotations
+
+from typing import TYPE_CHECKING, Callable
+
 from .commands import command, map_async, write_buffer, write_texture
 from .world import World
 
+if TYPE_CHECKING:
+    from random import Random
 
-def borders(random):
+    from .handed import Act, Call
+    from .world import Thing
+
+
+def borders(random: Random) -> list[Call]:
     """Many objects, writes and encoders of one or two commands, half of them with a rule just unmet."""
     world = World(random, 0.5)
     count = random.randint(10, 40)
@@ -39,14 +49,14 @@ def borders(random):
     return world.calls
 
 
-def last_before_loss(random, count, chance):
+def last_before_loss(random: Random, count: int, chance: float) -> int | None:
     """The number of the act before which the device is lost: none as a rule, and mostly a late one."""
     if random.random() >= chance:
         return None
     return random.randrange(count) if random.random() < 0.2 else random.randrange(count * 2 // 3, count)
 
 
-def single(world):
+def single(world: World) -> None:
     """An encoder of few commands, finished and submitted."""
     encoder = world.encoder()
     for _ in range(world.random.choice([1, 1, 1, 2, 3])):
@@ -56,7 +66,7 @@ def single(world):
         world.submit([command_buffer])
 
 
-def mixed(random, longest=60):
+def mixed(random: Random, longest: int = 60) -> list[Call]:
     """Work as a program does it: several encoders open at once, few faults."""
     world = World(random, random.choice([0.0, 0.01, 0.05, 0.2]))
     for _ in range(random.randint(1, 3)):
@@ -71,12 +81,12 @@ def mixed(random, longest=60):
     return world.calls
 
 
-def long(random):
+def long(random: Random) -> list[Call]:
     """Mixed work of some hundreds of calls."""
     return mixed(random, 200)
 
 
-def make(world):
+def make(world: World) -> None:
     kind = world.random.randrange(9)
     if kind < 2:
         world.buffer(not world.has_fault())
@@ -87,34 +97,34 @@ def make(world):
     elif kind == 6:
         world.query_set(not world.has_fault())
     elif world.textures:
-        texture = world.random.choice(world.textures) if world.random.random() < 0.2 else world.some(world.textures)
+        texture = world.random.choice(world.textures) if world.random.random() < 0.2 else world.one(world.textures)
         world.view(texture, not world.has_fault())
 
 
-def write(world):
+def write(world: World) -> None:
     world.random.choice([write_buffer, write_texture])(world, not world.has_fault())
 
 
-def open_encoder(world):
+def open_encoder(world: World) -> Thing:
     found = [encoder for encoder in world.encoders if not encoder.finished and (not encoder.dropped or random_use(world))]
     return world.random.choice(found) if found else world.encoder()
 
 
-def record(world):
+def record(world: World) -> None:
     command(world, open_encoder(world), not world.has_fault())
 
 
-def finish(world):
+def finish(world: World) -> None:
     world.finish(open_encoder(world))
 
 
-def submit(world):
+def submit(world: World) -> None:
     ready = [thing for thing in world.command_buffers if thing.good and not thing.submitted and (not thing.dropped or random_use(world))]
     world.random.shuffle(ready)
     world.submit(ready[:world.random.randint(0, 3)])
 
 
-def complete(world):
+def complete(world: World) -> None:
     """Mostly an operation that was queued and is not complete; at times the last, the next, or 0."""
     random, issued = world.random, world.issued
     waiting = range(world.completed + 1, issued + 1)
@@ -124,7 +134,7 @@ def complete(world):
         world.complete(random.choice([issued, issued, random.randint(0, issued), issued + 1, 0]))
 
 
-def scope(world):
+def scope(world: World) -> None:
     """Error scopes are opened a little more often than closed, so that several are open; at times one too many is closed."""
     if world.random.random() < (0.45 if world.scopes else 0.1):
         world.pop_scope()
@@ -132,7 +142,7 @@ def scope(world):
         world.push_scope()
 
 
-def maps(world):
+def maps(world: World) -> None:
     """A map, or the end of one: of a buffer that is mapped or pending as a rule, and at times of any."""
     random = world.random
     mapped = [thing for thing in world.buffers if thing.mapped]
@@ -144,7 +154,7 @@ def maps(world):
         map_async(world, not world.has_fault())
 
 
-def use_while_mapped(world, buffer):
+def use_while_mapped(world: World, buffer: Thing) -> None:
     """A write, a submit or a destroy of a buffer that is mapped or pending."""
     random = world.random
     kind = random.randrange(3)
@@ -157,36 +167,36 @@ def use_while_mapped(world, buffer):
         other = world.buffer(usage=12)
         source, target = (buffer, other) if buffer.call["usage"] & 4 else (other, buffer)
         copy = {"do": "copyBufferToBuffer", "on": encoder.name, "source": source.name, "target": target.name}
-        world.add(copy | {"sourceOffset": 0, "targetOffset": 0, "size": random.choice([0, 4])})
+        world.add({**copy, "sourceOffset": 0, "targetOffset": 0, "size": random.choice([0, 4])})
         command_buffer = world.finish(encoder)
         if random.random() < 0.3:
             world.unmap(buffer)
         world.submit([command_buffer])
 
 
-def work_done(world):
+def work_done(world: World) -> None:
     world.work_done()
 
 
-def destroy(world):
+def destroy(world: World) -> None:
     things = world.resources()
     if things:
-        world.destroy(world.random.choice(things) if world.random.random() < 0.15 else world.some(things))
+        world.destroy(world.random.choice(things) if world.random.random() < 0.15 else world.one(things))
 
 
-def drop(world):
+def drop(world: World) -> None:
     """A drop of anything, mostly of what was not dropped before."""
     things = [thing for thing in world.everything() if not thing.dropped or random_use(world)]
     if things:
         world.drop(world.random.choice(things))
 
 
-def random_use(world):
+def random_use(world: World) -> bool:
     """Whether what was dropped is used all the same, which is refused."""
     return world.random.random() < 0.1
 
 
-def drop_and_use(world):
+def drop_and_use(world: World) -> None:
     """A call on something that was dropped just before, or on an invalid one that was."""
     random, good = world.random, not world.has_fault()
     kind = random.randrange(6)
@@ -209,7 +219,8 @@ def drop_and_use(world):
     elif kind == 2:
         texture = world.texture(good)
         world.drop(texture)
-        acts = [world.destroy, world.drop, world.view] + [lambda thing: write_texture(world, True, thing)] * (2 * good)
+        written: list[Callable[[Thing], object]] = [lambda thing: write_texture(world, True, thing)]
+        acts: list[Callable[[Thing], object]] = [world.destroy, world.drop, world.view, *written * (2 * good)]
         random.choice(acts)(texture)
     elif kind == 3:
         encoder = world.encoder()
@@ -226,7 +237,7 @@ def drop_and_use(world):
         world.submit([command_buffer])
 
 
-def odd(world):
+def odd(world: World) -> None:
     """What a script may do that the device refuses: late calls, second finishes, submits that can't be."""
     random = world.random
     kind = random.choices(range(8), [3, 1, 1, 1, 1, 1, 1, 1])[0]
@@ -247,7 +258,7 @@ def odd(world):
         world.complete(random.choice([2**53 - 1, world.issued + 1]))
 
 
-def destroyed_before_submit(world):
+def destroyed_before_submit(world: World) -> None:
     """An encoder whose objects are destroyed before the submit, some or none of them."""
     encoder = world.encoder()
     seen = len(world.calls)
@@ -260,7 +271,7 @@ def destroyed_before_submit(world):
     world.submit([command_buffer])
 
 
-def write_after_destroy(world):
+def write_after_destroy(world: World) -> None:
     things = [
         thing for thing in world.buffers + world.textures if thing.good and thing.call["usage"] == (12 if thing in world.buffers else 3)
     ]
@@ -273,5 +284,5 @@ def write_after_destroy(world):
             write_texture(world, True, thing)
 
 
-ACTS = [make, write, record, finish, submit, complete, destroy, drop, scope, work_done, maps, odd]
+ACTS: list[Act] = [make, write, record, finish, submit, complete, destroy, drop, scope, work_done, maps, odd]
 ACT_WEIGHTS = [2, 4, 10, 3, 3, 2, 1, 2, 2, 2, 4, 1]
