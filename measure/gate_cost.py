@@ -24,6 +24,7 @@ import resource
 import signal
 import subprocess
 import sys
+import textwrap
 import time
 
 import chains
@@ -379,7 +380,7 @@ def seconds_of(costs):
 def chain(costs):
     """The longest chain of crates, which no number of processors makes shorter, in a sentence."""
     found = chains.told(*crates.longest(seconds_of(costs), crates.listed()))
-    return f"The longest chain of crates that stand on one another takes {found}."
+    return textwrap.fill(f"The longest chain of crates that stand on one another takes {found}.", 140, break_on_hyphens=False)
 
 
 def reckoned(asked):
