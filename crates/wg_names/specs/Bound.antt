@@ -5,7 +5,7 @@ use Rattle.std.specs.Option.{option_to_list}
 use Rattle.wg_script.specs.CallOf.{Call, BoundCall}
 use Rattle.wg_script.specs.Draft.{draft_of}
 use Rattle.wg_script.specs.declared.calls.CallOf.{CallOf}
-use Rattle.wg_script.specs.declared.draft.Draft.{Draft}
+use Rattle.wg_script.specs.declared.draft.ScriptDraft.{ScriptDraft}
 use Rattle.wg_types.specs.declared.commands.CommandOf.{CommandOf}
 use Rattle.wg_types.specs.Commands.{place_wanted, named_on}
 use Rattle.wg_types.specs.Requests.{named as asked_of}
@@ -135,6 +135,6 @@ pub record IsBoundFrom (draft : List (List (List Call))) (phases : List (List (L
 
 -- The script's calls are those of the draft that the bytes give.
 pub record IsBoundRead (bytes : List ℕ) (phases : List (List (List BoundCall))) : Type 0 where
-  pub draft : Draft
+  pub draft : ScriptDraft
   pub read : draft_of bytes ≡ Ok draft
   pub from : IsBoundFrom draft.phases phases

@@ -6,7 +6,7 @@ use Rattle.wg_script.specs.Draft.{Stop, at, draft_of}
 use Rattle.wg_script.specs.Outcome.{Refuses}
 use Rattle.wg_script.specs.declared.calls.CallOf.{CallOf}
 use Rattle.wg_script.specs.declared.draft.Place.TheVariants as place
-use Rattle.wg_script.specs.declared.draft.Draft.{Draft}
+use Rattle.wg_script.specs.declared.draft.ScriptDraft.{ScriptDraft}
 use Rattle.wg_script.specs.declared.draft.Script.{Script}
 use Rattle.wg_script.specs.declared.draft.ScriptFault.{ScriptFault}
 use Rattle.wg_types.specs.Commands.{place_wanted, named_on}
@@ -104,7 +104,7 @@ abbrev pub map_phases : {R S : Type 0} → (R → S) → List (List (List (CallO
 map_phases f phases = map (map_phase f) phases
 
 -- the script that a draft is: the same calls, with the slot of each name in place of it, where no name is refused
-abbrev pub script_from : Draft → Result Script Stop
+abbrev pub script_from : ScriptDraft → Result Script Stop
 script_from draft = phases_bound draft.phases >>= λ names. Ok (record { budget = draft.budget; limits = draft.limits; phases = map_phases (slot_in names) draft.phases })
 
 -- the script that the bytes are, or the rule that they break first, with its place

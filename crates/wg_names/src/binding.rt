@@ -12,7 +12,7 @@ use crate::known::Known;
 use crate::slots::bound_phases;
 use crate::uses::{check_setting, check_uses, made_of, note_setting};
 use std::alloc::Global;
-use wg_script::{Call, Draft, Lane, Phase, Place, Script, ScriptFault};
+use wg_script::{Call, Lane, Phase, Place, Script, ScriptDraft, ScriptFault};
 
 /// How many letters a name may have.
 const MOST_LETTERS: usize = 64;
@@ -119,7 +119,7 @@ fn bind_phases<'a>(known: &mut Known<'a>, phases: &'a [Phase]) -> Result<(), Scr
 /// what is wanted, and in which each canvas is configured before its current texture is asked for; or the
 /// rule that is broken first and its place; or that there was no memory. A list of 2^32 phases, lanes or
 /// calls, whose places have no number, counts as want of memory, and so does the 2^32-th name.
-pub fn bind(alloc: Global, draft: Draft) -> Result<Script, ScriptFault>
+pub fn bind(alloc: Global, draft: ScriptDraft) -> Result<Script, ScriptFault>
     ensures read { Reads result (script_from draft) }
     ensures bound { IfOk result (λ script. IsBound script.phases) }
     ensures from { IfOk result (λ script. IsBoundFrom draft.phases script.phases) }

@@ -12,7 +12,7 @@ use Rattle.wg_trace.specs.declared.steps.Item.{Item}
 use Rattle.wg_trace.specs.declared.steps.Item.TheVariants as item
 use Rattle.wg_readtrace.specs.declared.line.Line.{Line}
 use Rattle.wg_readtrace.specs.declared.line.Line.TheVariants.{Bar, Step, Use, Acc, Free, End}
-use Rattle.wg_readtrace.specs.declared.draft.Draft.{Draft}
+use Rattle.wg_readtrace.specs.declared.draft.TraceDraft.{TraceDraft}
 use Rattle.wg_readtrace.specs.declared.reading.TraceFault.{TraceFault}
 use Rattle.wg_readtrace.specs.declared.reading.TraceFault.TheVariants.{Bad, NoMemory}
 use Rattle.wg_readtrace.specs.Forms.{line_of}
@@ -74,7 +74,7 @@ use_more items None uses accesses part set lines = refl
 use_more items (Some step) uses accesses part set lines =
     ap (λ (us : List (PartRun × Usages)). items ++ (item.Step (record { place = step.0; name = step.1; uses = us; accesses = accesses ++ accesses_in lines }) ∷ items_of lines)) (append_assoc uses ((part, set) ∷ []) (uses_in lines))
 
-front_more : (draft draft2 : Draft) (line : Line) (r : Result (List Line) (ℕ × ℕ)) → ((lines : List Line) → items_with draft2 lines ≡ items_with draft (line ∷ lines)) → read_with draft2 r ≡ read_with draft (onto line r)
+front_more : (draft draft2 : TraceDraft) (line : Line) (r : Result (List Line) (ℕ × ℕ)) → ((lines : List Line) → items_with draft2 lines ≡ items_with draft (line ∷ lines)) → read_with draft2 r ≡ read_with draft (onto line r)
 front_more draft draft2 line (Ok lines) h = ap Ok (h lines)
 front_more draft draft2 line (Err e) h = refl
 
@@ -84,7 +84,7 @@ lines_here : (n : ℕ) (last : Option Line) (steps : ℕ) (rows : List Cells) (t
     (judged n (is_none_left (lines_of (drop (end + 1) text))) last steps rows (line_of (take (end - at) (drop at text))))
 lines_here n last steps rows text at end l le e = ap (lines_from n last steps rows) (line_at text at end l le e)
 
-pub turn_err : (draft : Draft) (n : ℕ) (last : Option Line) (steps : ℕ) (rows : List Cells) (text : List ℕ) (at end : ℕ) (is_last : Bool) (e : TraceFault) → at < length text → at ≤ end → end - at ≡ line_len (drop at text)
+pub turn_err : (draft : TraceDraft) (n : ℕ) (last : Option Line) (steps : ℕ) (rows : List Cells) (text : List ℕ) (at end : ℕ) (is_last : Bool) (e : TraceFault) → at < length text → at ≤ end → end - at ≡ line_len (drop at text)
     → is_last ≡ is_none_left (lines_of (drop (end + 1) text)) → Gives (Err e) (judged n is_last last steps rows (line_of (take (end - at) (drop at text))))
     → Refuses e (read_with draft (lines_from n last steps rows (lines_of (drop at text))))
 turn_err draft n last steps rows text at end is_last (Bad rule line) l le e lone h =
@@ -92,7 +92,7 @@ turn_err draft n last steps rows text at end is_last (Bad rule line) l le e lone
     ∙ ap (then_read (λ line. lines_from (suc n) (Some line) (steps_after steps line) (rows_after rows line) (lines_of (drop (end + 1) text)))) (ap (λ (t : Bool). judged n t last steps rows (line_of (take (end - at) (drop at text)))) (sym lone) ∙ h))
 turn_err draft n last steps rows text at end is_last NoMemory l le e lone h = tt
 
-pub turn_ok : (draft draft2 : Draft) (n n2 : ℕ) (last last2 : Option Line) (steps steps2 : ℕ) (rows rows2 : List Cells) (text : List ℕ) (at end : ℕ) (is_last : Bool) (line : Line) → at < length text → at ≤ end → end - at ≡ line_len (drop at text)
+pub turn_ok : (draft draft2 : TraceDraft) (n n2 : ℕ) (last last2 : Option Line) (steps steps2 : ℕ) (rows rows2 : List Cells) (text : List ℕ) (at end : ℕ) (is_last : Bool) (line : Line) → at < length text → at ≤ end → end - at ≡ line_len (drop at text)
     → is_last ≡ is_none_left (lines_of (drop (end + 1) text)) → judged n is_last last steps rows (line_of (take (end - at) (drop at text))) ≡ Ok line
     → n2 ≡ suc n → last2 ≡ Some line → steps2 ≡ steps_after steps line → rows2 ≡ rows_after rows line → ((lines : List Line) → items_with draft2 lines ≡ items_with draft (line ∷ lines))
     → read_with draft2 (lines_from n2 last2 steps2 rows2 (lines_of (drop (end + 1) text))) ≡ read_with draft (lines_from n last steps rows (lines_of (drop at text)))
@@ -102,12 +102,12 @@ turn_ok draft draft2 n n2 last last2 steps steps2 rows rows2 text at end is_last
     ∙ ap (then_read (λ line. lines_from (suc n) (Some line) (steps_after steps line) (rows_after rows line) (lines_of (drop (end + 1) text)))) (ap (λ (t : Bool). judged n t last steps rows (line_of (take (end - at) (drop at text)))) (sym lone) ∙ h))))
 
 -- the items of a draft with no open step
-pub finished : (draft old : Draft) → items_with draft [] ≡ items_with old [] ++ [] → draft.begun ≡ None → draft.items ≡ items_with old []
+pub finished : (draft old : TraceDraft) → items_with draft [] ≡ items_with old [] ++ [] → draft.begun ≡ None → draft.items ≡ items_with old []
 finished draft old h none =
     sym (append-nil draft.items) ∙ (ap (λ (b : Option (StepPlace × StepName)). draft.items ++ flow b draft.uses draft.accesses []) (sym none) ∙ (h ∙ append-nil (items_with old [])))
 
 -- a line that is an item of its own
-pub item_noted : (old mid : Draft) (items : List Item) (x : Item) (line : Line) (lines : List Line)
+pub item_noted : (old mid : TraceDraft) (items : List Item) (x : Item) (line : Line) (lines : List Line)
     → ((lines : List Line) → items_with mid lines ≡ items_with old [] ++ items_of lines) → mid.begun ≡ None → items ≡ mid.items ++ x ∷ []
     → items_of (line ∷ lines) ≡ x ∷ items_of lines → uses_in (line ∷ lines) ≡ [] → accesses_in (line ∷ lines) ≡ []
     → items ++ flow mid.begun mid.uses mid.accesses lines ≡ items_with old (line ∷ lines)
@@ -120,7 +120,7 @@ item_noted old mid items x line lines h none pushed is u a =
     ∙ (h (line ∷ lines) ∙ closes old.items old.begun old.uses old.accesses (line ∷ lines) u a)))))
 
 -- a line that begins a step
-pub step_noted : (old mid : Draft) (number : ℕ) (place : StepPlace) (name : StepName) (lines : List Line)
+pub step_noted : (old mid : TraceDraft) (number : ℕ) (place : StepPlace) (name : StepName) (lines : List Line)
     → ((lines : List Line) → items_with mid lines ≡ items_with old [] ++ items_of lines) → mid.begun ≡ None → mid.uses ≡ [] → mid.accesses ≡ []
     → mid.items ++ flow (Some (place, name)) mid.uses mid.accesses lines ≡ items_with old (Step number place name ∷ lines)
 step_noted old mid number place name lines h none u a =

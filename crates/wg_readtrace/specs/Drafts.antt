@@ -10,7 +10,7 @@ use Rattle.wg_trace.specs.declared.steps.Item.{Item}
 use Rattle.wg_trace.specs.declared.steps.Item.TheVariants as item
 use Rattle.wg_readtrace.specs.declared.line.Line.{Line}
 use Rattle.wg_readtrace.specs.declared.line.Line.TheVariants.{Bar, Step, Use, Acc, Free, End}
-use Rattle.wg_readtrace.specs.declared.draft.Draft.{Draft}
+use Rattle.wg_readtrace.specs.declared.draft.TraceDraft.{TraceDraft}
 use Rattle.wg_readtrace.specs.declared.reading.TraceFault.{TraceFault}
 use Rattle.wg_readtrace.specs.declared.reading.TraceFault.TheVariants.{Bad, NoMemory}
 use Rattle.wg_readtrace.specs.Forms.{line_of}
@@ -46,11 +46,11 @@ abbrev pub rows_of : List (Cells × AccessKind) → List Cells
 rows_of accesses = map (λ row. row.0) accesses
 
 -- the items of a draft with those of the lines behind it
-abbrev pub items_with : Draft → List Line → List Item
+abbrev pub items_with : TraceDraft → List Line → List Item
 items_with draft lines = draft.items ++ flow draft.begun draft.uses draft.accesses lines
 
 -- the items of lines that were read, behind those that a draft has, or the first refusal
-abbrev pub read_with : Draft → Result (List Line) (ℕ × ℕ) → Result (List Item) (ℕ × ℕ)
+abbrev pub read_with : TraceDraft → Result (List Line) (ℕ × ℕ) → Result (List Item) (ℕ × ℕ)
 read_with draft (Ok lines) = Ok (items_with draft lines)
 read_with draft (Err e) = Err e
 

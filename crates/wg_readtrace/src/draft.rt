@@ -15,7 +15,7 @@ use wg_trace::steps::{Accesses, Item, Step, StepName, StepPlace, Uses};
 
 /// The items that are whole, and the step whose lines are being read, with its cells.
 #[derive(Drop)]
-pub struct Draft {
+pub struct TraceDraft {
     alloc: Global,
     items: Items<Item>,
     begun: Option<(StepPlace, StepName)>,
@@ -24,13 +24,13 @@ pub struct Draft {
     pub given: Given,
 }
 
-impl Draft {
-    pub fn new(alloc: Global) -> Draft
+impl TraceDraft {
+    pub fn new(alloc: Global) -> TraceDraft
         ensures items { (lines : List ReadLine) → items_with result lines ≡ Rattle.wg_readtrace.specs.Reading.items_of lines }
         ensures rows { rows_of result.accesses ≡ [] }
         ensures given { Knows result.given [] }
     {
-        Draft {
+        TraceDraft {
             alloc,
             items: Items::new(alloc),
             begun: None,
@@ -101,7 +101,7 @@ impl Draft {
     {
         let mut draft = self;
         draft.close()?;
-        let Draft { items, .. } = draft;
+        let TraceDraft { items, .. } = draft;
         Ok(items)
     }
 }

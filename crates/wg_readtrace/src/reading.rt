@@ -9,7 +9,7 @@ ghost use Rattle.wg_readtrace.specs.Lines.{line_len};
 ghost use Rattle.wg_readtrace.specs.Reading.{Refuses, is_text_byte, ends_line, lines_of, behind_trace, is_bar, is_step, is_use, is_acc, is_end, is_counted, may_stand, is_none_left, gives_again, judged, as_items, trace_in};
 ghost use Rattle.wg_readtrace.specs.Drafts.{Gives, LineIsFull, steps_after, lines_from};
 
-use crate::draft::Draft;
+use crate::draft::TraceDraft;
 use crate::given::Given;
 use crate::line::Line;
 use crate::{forms, words};
@@ -223,7 +223,7 @@ fn read_items(
     ensures ok { IfOk result (λ items. as_items (lines_from first None 0 [] (lines_of (drop from text.now))) ≡ Rattle.std.specs.Prelude.Ok items) }
     ensures err { IfErr result (λ e. Refuses e (as_items (lines_from first None 0 [] (lines_of (drop from text.now))))) }
 {
-    let mut draft = Draft::new(alloc);
+    let mut draft = TraceDraft::new(alloc);
     let mut last = None;
     let mut steps = 0;
     let mut n = first;

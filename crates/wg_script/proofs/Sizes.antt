@@ -10,7 +10,7 @@ use Rattle.wg_script.specs.CallOf.{Call}
 use Rattle.wg_script.specs.Giving.{◌>>=◌}
 use Rattle.wg_script.specs.Draft.{Stop, each, lane_of, phase_items, phase_of, check_top, budget_of, listed_of, limits_of, phases_of, top_of, json_of, draft_read, draft_of}
 use Rattle.wg_script.specs.Sizes.{IsSized}
-use Rattle.wg_script.specs.declared.draft.Draft.{Draft}
+use Rattle.wg_script.specs.declared.draft.ScriptDraft.{ScriptDraft}
 use Rattle.wg_script.specs.declared.draft.Place.TheVariants as place
 
 -- both steps of a reading
@@ -73,7 +73,7 @@ few_phases ds x true few e =
     record { phases = omega arith; lanes = read.all }
 few_phases ds x false few e = absurd (cc)
 
-top_sized : (d : Data) (draft : Draft) → top_of d ≡ Ok draft → IsSized draft.phases
+top_sized : (d : Data) (draft : ScriptDraft) → top_of d ≡ Ok draft → IsSized draft.phases
 unfolding top_of
 top_sized d draft e =
     let fine = both (check_top d) (λ _. budget_of d >>= λ budget. listed_of d >>= λ listed. limits_of d >>= λ limits. phases_of listed >>= λ phases. Ok (record { budget = budget; limits = limits; phases = phases.0 })) draft e in
@@ -86,9 +86,9 @@ top_sized d draft e =
     let P : List (List (List Call)) → Type 0 = λ all. IsSized all in
     subst P same sized
 
-read_sized : (d : Option Data) (draft : Draft) → draft_read d ≡ Ok draft → IsSized draft.phases
+read_sized : (d : Option Data) (draft : ScriptDraft) → draft_read d ≡ Ok draft → IsSized draft.phases
 read_sized None draft e = absurd (cc)
 read_sized (Some d) draft e = top_sized d draft e
 
-pub draft_sized : (bytes : List ℕ) (draft : Draft) → draft_of bytes ≡ Ok draft → IsSized draft.phases
+pub draft_sized : (bytes : List ℕ) (draft : ScriptDraft) → draft_of bytes ≡ Ok draft → IsSized draft.phases
 draft_sized bytes draft e = read_sized (json_of bytes) draft e

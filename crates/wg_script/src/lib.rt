@@ -25,7 +25,9 @@ mod values;
 mod words;
 
 pub use calls::{BoundCall, Call, CallOf};
-pub use draft::{BoundLane, BoundPhase, Draft, Lane, Phase, Phases, Place, Script, ScriptFault};
+pub use draft::{
+    BoundLane, BoundPhase, Lane, Phase, Phases, Place, Script, ScriptDraft, ScriptFault,
+};
 pub use name::Name;
 pub use reading::read;
 pub use wg_entry::NoMemory;

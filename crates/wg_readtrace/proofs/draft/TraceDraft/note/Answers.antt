@@ -4,7 +4,7 @@ use Rattle.wg_readtrace.specs.declared.line.Line.{Line}
 use Rattle.wg_readtrace.specs.declared.line.Line.TheVariants.{Bar, Free}
 use Rattle.wg_readtrace.specs.Drafts.{items_with}
 use Rattle.wg_readtrace.proofs.Drafts.{item_noted, step_noted}
-use Rattle.wg_readtrace.proofs.draft.Draft.note.Goals as goal
+use Rattle.wg_readtrace.proofs.draft.TraceDraft.note.Goals as goal
 
 pub returns-in_ok-push-in-Bar-clause-items : goal.returns-in_ok-push-in-Bar-clause-items
 returns-in_ok-push-in-Bar-clause-items c = λ lines.
