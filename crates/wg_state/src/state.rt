@@ -87,11 +87,20 @@ fn note(
     ensures errors_spare { kept.old.errors.spare ≤ kept.new.errors.spare + 1 }
     ensures maps_spare { kept.old.maps.spare ≤ kept.new.maps.spare + 1 }
 {
-    note_maps(setup, book, &kept.life, entry, info, &mut kept.maps);
+    let effects = entry.event.effects();
+    note_maps(
+        setup,
+        book,
+        &kept.life,
+        entry,
+        &effects,
+        info,
+        &mut kept.maps,
+    );
     grow(made, &mut kept.life);
     note_entry(setup, book, entry, uses, &mut kept.life);
-    note_queue(book.len(), entry, &mut kept.queue);
-    note_errors(entry, &mut kept.errors);
+    note_queue(book.len(), entry, &effects, &mut kept.queue);
+    note_errors(entry, &effects, &mut kept.errors);
     kept.life.release(kept.queue.completed(), trace);
 }
 
