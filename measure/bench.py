@@ -5,17 +5,17 @@ Run at the top of the repository, after `./wgsim prove` has built the program. I
 the same number whatever else the machine does, and the most memory that was resident in a run without valgrind, and prints the table of
 docs/costs.md. `--long` measures scripts of some 65,536 calls in place of the others, each against one of half its calls, which takes a
 quarter of an hour: where nothing is a square, a call costs the same in both. `--traces` measures `check` on traces of 200,000 lines, each
-against one of half its lines. `--kept` measures what a device keeps that is driven without a log: the most memory that is resident in
-`crates/wgloop`, which takes so many rounds of the same calls. `--submits` measures what a device does under its lock for the submit of a
+against one of half its lines. `--submits` measures what a device does under its lock for the submit of a
 command buffer, by its commands, and what it takes to note one more. `--program PATH` names another program; `--only WORD` measures the
 scripts alone whose title has the word; `--functions N` lists, below each script, the N functions that took most, and `--inclusive` with all
 that they call.
 
 Through C, by `measure/loop.c`, which is linked with the archive that the gate built, or by `--archive PATH` with another, and `--libc PATH`
 with another heap: `--through-c` counts what calls cost, by two pairs of counts or those of `--counts` alone, and what a device keeps;
-`--write` writes the tables into docs/costs.md. `--check` fails where a figure is more than 5 parts in 100 above that of docs/costs.md, or
-more is resident than docs/costs.md allows; with `--counts small` that takes a minute. `--beside-browser` makes the same calls by a page in
-Chromium, or by `--browser PATH` in another browser, and compares the processor time of its process for graphics with that through C. """
+`--write` writes the tables into docs/costs.md. `--kept` measures what a device keeps alone, up to ten million rounds, which takes minutes.
+`--check` fails where a figure is more than 5 parts in 100 above that of docs/costs.md, or more is resident than docs/costs.md allows; with
+`--counts small` that takes a minute. `--beside-browser` makes the same calls by a page in Chromium, or by `--browser PATH` in another
+browser, and compares the processor time of its process for graphics with that through C. """
 
 import argparse
 import json
@@ -40,9 +40,6 @@ LOCKED, ADDED, NOTE = "wg_core::logged::LoggedCoreLogged::act", "wg_core::plan::
 COPIES = [10, 1_000, 10_000]
 # How many buffers a command buffer has used, and how often one of them is cleared again.
 USED, AGAIN = [1, 100, 10_000], 100
-# The program that drives a device without a log, and how many rounds it takes.
-LOOP = TOP / "crates/wgloop/out/wgloop"
-ROUNDS = [10_000, 100_000, 1_000_000]
 # The status of a trace whose barriers are not enough.
 DIFFERS = 8
 # Runs a command from a small process, since what is resident in the one that starts it counts for the command too.
@@ -537,19 +534,6 @@ def row(title, run, calls, words, half=None):
     print(f"| {title} | {calls} | {total} | {total // calls} | {memory} |{growth}", *lines, sep="\n", flush=True)
 
 
-def kept():
-    """The table of what a device keeps, by rounds of calls, each of which makes three objects."""
-    print("| Rounds | Calls | KB resident | Bytes a round, beyond those of the first |")
-    print("|---|---|---|---|")
-    first = None
-    for rounds in ROUNDS:
-        command = [sys.executable, "-S", "-c", RESIDENT, str(LOOP), str(rounds)]
-        resident = int(subprocess.run(command, capture_output=True, check=True).stdout)
-        more = "" if first is None else f"{(resident - first) * 1024 / (rounds - ROUNDS[0]):.0f}"
-        first = resident if first is None else first
-        print(f"| {rounds:,} | {11 * rounds + 1:,} | {resident:,} | {more} |")
-
-
 def submits(program):
     """The tables of what a submit takes under the lock, and of what it takes to note a step."""
     print("| Copies | Instructions of the submit under the lock | A copy | Of that what it adds to the trace, a copy |")
@@ -573,6 +557,8 @@ def loops(words):
         loop = through_c.Loop(through_c.linked(words.archive, words.libc), folder)
         if words.beside_browser:
             print(beside.table(loop, words.browser, words.only))
+        elif words.kept:
+            print(through_c.memory_table(loop, words.only, [*through_c.ROUNDS, 10_000_000]))
         elif words.check:
             sys.exit(0 if through_c.check(loop, words.counts or "large") else 1)
         else:
@@ -629,10 +615,8 @@ def arguments():
 
 def main():
     words = arguments()
-    if words.through_c or words.check or words.beside_browser:
+    if words.through_c or words.check or words.beside_browser or words.kept:
         loops(words)
-    elif words.kept:
-        kept()
     elif words.submits:
         submits(words.program)
     else:

@@ -143,13 +143,13 @@ def costs_table(loop: Loop, words: Sequence[str], only: str = "", functions: int
     return "\n".join(lines)
 
 
-def memory_table(loop: Loop, only: str = "") -> str:
+def memory_table(loop: Loop, only: str = "", rounds: Sequence[int] = ROUNDS) -> str:
     """The table of what is resident after so many rounds, or nothing where none of its kinds is asked for."""
-    head = ["Kind", *(f"After {count:,} rounds, KB" for count in ROUNDS), "Bytes a round, beyond the first of these"]
+    head = ["Kind", *(f"After {count:,} rounds, KB" for count in rounds), "Bytes a round, beyond the first of these"]
     lines = [f"| {' | '.join(head)} |", "|---|" + "--:|" * (len(head) - 1)]
     for kind in (kind for kind in KEEPING if only in kind):
-        found = [loop.said(kind, count).resident for count in ROUNDS]
-        more = (found[-1] - found[0]) * 1024 / (ROUNDS[-1] - ROUNDS[0])
+        found = [loop.said(kind, count).resident for count in rounds]
+        more = (found[-1] - found[0]) * 1024 / (rounds[-1] - rounds[0])
         lines.append(f"| `{kind}` | {' | '.join(f'{each:,}' for each in found)} | {more:,.1f} |")
     return "\n".join(lines) if len(lines) > 2 else ""
 

@@ -1,7 +1,7 @@
 //! Events that a device answers one by one, whose references no script can have.
 use std::alloc::Global;
 use std::sync::Arc;
-use wg_core::{Event, LoggedCore};
+use wg_core::{Core, Event, LoggedCore, Spent};
 use wg_encoder::{Recorder, Recording};
 use wg_limits::default_limits;
 use wg_turn::Logged;
@@ -10,6 +10,7 @@ use wg_types::commands::{Command, On};
 use wg_types::handles::{BufferInfo, Handle, Info, ObjRef};
 use wg_types::items::Items;
 use wg_types::replies::{Answer, Caught, Fault, FaultKind};
+use wg_types::steps::Item;
 
 // Each test makes its device in one function and asks it in another, that borrows it and gives plain answers: so
 // its drop, which is dear to prove, stands at one way out, and nothing is held where a test asserts.
@@ -179,4 +180,55 @@ fn of_another_device(alloc: Global) -> [bool; 5] {
 #[test]
 fn references_of_another_device_and_kind(rt: HostRuntime) {
     assert!(rt; of_another_device(rt.alloc()) == [true; 5]);
+}
+
+/// Asks a device without a log, and takes what a driver has to do out of the list: whether the event is answered so,
+/// with so many items.
+fn step(
+    core: &mut Core,
+    items: &mut Vec<Item>,
+    event: Event,
+    answer: Answer,
+    count: usize,
+) -> bool {
+    let mut spent = Spent::new(*items.allocator());
+    items.clear();
+    match core.step(0, event, items, &mut spent) {
+        Ok(reply) => reply.answer == answer && items.len() == count,
+        Err(_) => false,
+    }
+}
+
+/// A write of a whole buffer.
+fn write(number: u64) -> Event {
+    Event::WriteBuffer {
+        buffer: own(number),
+        offset: 0,
+        size: 16,
+    }
+}
+
+/// A buffer that is made, written, whose write is completed, and that is destroyed, on a device without a log.
+fn of_steps(alloc: Global) -> [bool; 4] {
+    let mut core = Core::new(alloc, 1_000_000, 1, &default_limits());
+    let mut items = Vec::new(alloc);
+    [
+        step(&mut core, &mut items, create(8), made(0, true), 0),
+        // The write: a buffer has no barrier at its first use.
+        step(&mut core, &mut items, write(0), Answer::Queued(1), 1),
+        step(
+            &mut core,
+            &mut items,
+            Event::Complete { op: 1 },
+            Answer::Plain,
+            0,
+        ),
+        // The release.
+        step(&mut core, &mut items, destroy(own(0)), Answer::Plain, 1),
+    ]
+}
+
+#[test]
+fn a_device_without_a_log_hands_out_what_is_to_be_done(rt: HostRuntime) {
+    assert!(rt; of_steps(rt.alloc()) == [true; 4]);
 }

@@ -37,7 +37,7 @@ def sources(top: pathlib.Path) -> list[tuple[str, set[str]]]:
     found = []
     for path in sorted(top.glob("crates/*/s*/**/*")):
         crate, folder = path.relative_to(top).parts[1:3]
-        if path.suffix in (".rt", ".antt") and folder in ("src", "specs") and not crate.endswith("_tests") and crate != "wgloop":
+        if path.suffix in (".rt", ".antt") and folder in ("src", "specs") and not crate.endswith("_tests"):
             found.append((crate, set(re.findall(r"\w+", path.read_text(encoding="utf-8")))))
     return found
 
