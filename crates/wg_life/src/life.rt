@@ -196,13 +196,6 @@ impl Life {
         self.holders.add(made.encoder, made.links);
     }
 
-    /// How many objects there are.
-    pub fn count(&self) -> u64
-        ensures { result ≡ length self.now.rows }
-    {
-        self.rows.len()
-    }
-
     /// Notes a finish of an encoder.
     pub fn ended(&mut self, encoder: u64)
         requires { was_let_go self.old.gone encoder ≡ false }
