@@ -1,5 +1,5 @@
 //! Where what is kept stands, by number, in floors of pages that are given back once nothing of them is kept.
-ghost use Rattle.std.specs.Prelude.{◌≡◌, ℕ, ◌+◌, ◌-◌, ◌*◌, ◌/◌, ◌<◌, ◌≤◌, ◌==◌, [], if◌then◌else◌, false, true, length, slice_index_or, OnOk, Option};
+ghost use Rattle.std.specs.Prelude.{◌≡◌, ℕ, ◌+◌, ◌-◌, ◌*◌, ◌/◌, ◌<◌, ◌≤◌, ◌==◌, [], if◌then◌else◌, true, length, slice_index_or, OnOk, Option};
 ghost use Rattle.std.specs.Global.{Global};
 ghost use Rattle.std.specs.declared.boxed.Box.{Box};
 ghost use Rattle.wg_fading.specs.declared.floors.Floor.{Floor};
