@@ -14,14 +14,14 @@ use wg_formats::{has_no_texel, size_or_rest, texture_of, whole_spot};
 use wg_types::NoMemory;
 use wg_types::commands::Command;
 use wg_types::handles::Handle;
-use wg_types::steps::{Deed, StepName, Touches};
+use wg_types::steps::{Deed, StepName, Touch};
 use wg_types::textures::{DataLayout, TextureSpot};
 
 /// What is done by a step of this name that touches these, of which there is one.
-fn one_deed(alloc: Global, name: StepName, touches: Touches) -> Result<Option<Deed>, NoMemory>
-    ensures { IfOk result (λ deed. deed ≡ Some (deed_of (name, touches))) }
+fn one_deed(alloc: Global, name: StepName, touches: &[Touch]) -> Result<Option<Deed>, NoMemory>
+    ensures { IfOk result (λ deed. deed ≡ Some (deed_of (name, touches.now))) }
 {
-    let deed = deed_of(alloc, name, touches.as_slice())?;
+    let deed = deed_of(alloc, name, touches)?;
     Ok(Some(deed))
 }
 
@@ -42,8 +42,8 @@ fn buffer_to_buffer(
     }
     let from = (source.reference().number, source_offset);
     let to = (target.reference().number, target_offset);
-    let touches = buffer_to_buffer_touches(alloc, from, to, size)?;
-    one_deed(alloc, StepName::CopyBufferToBuffer, touches)
+    let touches = buffer_to_buffer_touches(from, to, size)?;
+    one_deed(alloc, StepName::CopyBufferToBuffer, &touches)
 }
 
 /// What a copy from a buffer to a texture does.
@@ -65,7 +65,7 @@ fn buffer_to_texture(
     let to = texture.reference().number;
     let info = texture_of(texture);
     let touches = buffer_to_texture_touches(alloc, from, layout, to, &info, spot, size)?;
-    one_deed(alloc, StepName::CopyBufferToTexture, touches)
+    one_deed(alloc, StepName::CopyBufferToTexture, touches.as_slice())
 }
 
 /// What a copy from a texture to a buffer does.
@@ -87,7 +87,7 @@ fn texture_to_buffer(
     let to = buffer.reference().number;
     let info = texture_of(texture);
     let touches = texture_to_buffer_touches(alloc, to, layout, from, &info, spot, size)?;
-    one_deed(alloc, StepName::CopyTextureToBuffer, touches)
+    one_deed(alloc, StepName::CopyTextureToBuffer, touches.as_slice())
 }
 
 /// What a copy from a mip level and origin of a texture to those of another does.
@@ -115,7 +115,7 @@ fn texture_to_texture(
         &whole_spot(to.0, to.1),
         size,
     )?;
-    one_deed(alloc, StepName::CopyTextureToTexture, touches)
+    one_deed(alloc, StepName::CopyTextureToTexture, touches.as_slice())
 }
 
 /// What a clear of a range does. Without a size it goes up to the buffer's end.
@@ -133,8 +133,8 @@ fn clear_buffer(
         return Ok(None);
     }
     let end = end_of(offset, size)?;
-    let touches = range_touches(alloc, buffer.reference().number, offset, end)?;
-    one_deed(alloc, StepName::ClearBuffer, touches)
+    let touches = range_touches(buffer.reference().number, offset, end);
+    one_deed(alloc, StepName::ClearBuffer, &touches)
 }
 
 /// What a resolve of queries does.
@@ -154,8 +154,8 @@ fn resolve_query_set(
     }
     let from = (queries.reference().number, first);
     let to = (buffer.reference().number, offset);
-    let touches = resolve_set_touches(alloc, from, count, to)?;
-    one_deed(alloc, StepName::ResolveQuerySet, touches)
+    let touches = resolve_set_touches(from, count, to)?;
+    one_deed(alloc, StepName::ResolveQuerySet, &touches)
 }
 
 /// What a command on an encoder does, if it makes a step. A range of bytes, layers or queries that ends

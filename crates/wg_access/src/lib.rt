@@ -22,10 +22,9 @@ use touches::{copied_to, range_touches};
 pub use touching::deed_of;
 use wg_formats::has_no_texel;
 use wg_types::NoMemory;
-use wg_types::items::Items;
 use wg_types::mappings::{MapMode, Mapping};
 use wg_types::parts::{AccessKind, Cells};
-use wg_types::steps::{Deed, Step, StepName, StepPlace, Touches};
+use wg_types::steps::{Deed, Step, StepName, StepPlace, Touch};
 use wg_types::usages::Usages;
 use wg_types::writes::QueueWrite;
 
@@ -34,15 +33,15 @@ fn one_step(
     alloc: Global,
     place: StepPlace,
     name: StepName,
-    touches: Touches,
+    touches: &[Touch],
 ) -> Result<Option<Step>, NoMemory>
-    ensures { IfOk result (λ step. step ≡ Some (touching place name touches)) }
+    ensures { IfOk result (λ step. step ≡ Some (touching place name touches.now)) }
 {
     let Deed {
         name,
         uses,
         accesses,
-    } = deed_of(alloc, name, touches.as_slice())?;
+    } = deed_of(alloc, name, touches)?;
     Ok(Some(Step {
         place,
         name,
@@ -70,8 +69,8 @@ fn queued_step(
                 return Ok(None);
             }
             let end = offset + size;
-            let touches = range_touches(alloc, buffer.number, offset, end)?;
-            return one_step(alloc, place, StepName::WriteBuffer, touches);
+            let touches = range_touches(buffer.number, offset, end);
+            return one_step(alloc, place, StepName::WriteBuffer, &touches);
         }
         QueueWrite::Texture {
             texture,
@@ -84,7 +83,7 @@ fn queued_step(
                 return Ok(None);
             }
             let touches = copied_to(alloc, texture.number, &info, &spot, size)?;
-            return one_step(alloc, place, StepName::WriteTexture, touches);
+            return one_step(alloc, place, StepName::WriteTexture, touches.as_slice());
         }
     }
 }
@@ -136,17 +135,15 @@ fn host_name(mode: MapMode) -> StepName
 }
 
 /// What the host's access to the bytes of a mapping touches.
-fn host_touches(alloc: Global, buffer: u64, mapping: &Mapping) -> Result<Touches, NoMemory>
-    ensures { IfOk result (λ touches. touches ≡ host_touches buffer mapping.now) }
+fn host_touches(buffer: u64, mapping: &Mapping) -> [Touch; 1]
+    ensures { result ≡ host_touches buffer mapping.now }
 {
     let cells = Cells::Bytes {
         object: buffer,
         lo: mapping.lo,
         hi: mapping.hi,
     };
-    let mut touches = Items::new(alloc);
-    touches.push((cells, (host_usage(mapping.mode), host_kind(mapping.mode))))?;
-    Ok(touches)
+    [(cells, (host_usage(mapping.mode), host_kind(mapping.mode)))]
 }
 
 /// The step of the host's access to the bytes of a mapping, if there are any.
@@ -161,8 +158,8 @@ fn accessed_step(
     if mapping.lo == mapping.hi {
         return Ok(None);
     }
-    let touches = host_touches(alloc, buffer, mapping)?;
-    one_step(alloc, place, host_name(mapping.mode), touches)
+    let touches = host_touches(buffer, mapping);
+    one_step(alloc, place, host_name(mapping.mode), &touches)
 }
 
 /// The step of the host's access to the bytes of a mapping at this place, or none where it has no bytes

@@ -1,11 +1,11 @@
 //! What a recorder keeps.
-ghost use Rattle.std.specs.Prelude.{◌≡◌, ◌∷◌, ◌<◌, ◌++◌, [], ℕ, true, is_some, vec_len, vec_capacity, reverse, IfOk, OnOk, OnErr};
+ghost use Rattle.std.specs.Prelude.{◌≡◌, ◌∷◌, ◌<◌, ◌++◌, [], ℕ, true, false, is_some, vec_len, vec_capacity, reverse, IfOk, OnOk, OnErr};
 ghost use Rattle.wg_encoder.specs.Walked.{IsKnownOf};
 ghost use Rattle.wg_encoder.specs.Kept.{commands_of, IsKeptOf, IsNaming};
 ghost use Rattle.wg_encoder.specs.Naming.{AreNamedOnce, IsNamedBy, HasRoomFor, AreSameNames};
 
 use crate::known::Known;
-use crate::naming::{Named, Naming};
+use crate::naming::Naming;
 use crate::targets::Targets;
 use std::alloc::Global;
 use wg_types::NoMemory;
@@ -42,18 +42,18 @@ impl Kept {
         targets: &Targets,
         on: On,
         command: &Command,
-    ) -> Result<Named, NoMemory>
+    ) -> Result<(), NoMemory>
         requires { IsKnownOf device targets.now (reverse self.old.commands.items) self.old.known }
         ensures same { self.new.commands.items ≡ self.old.commands.items }
         ensures same_names { AreSameNames self.old.naming self.new.naming }
-        ensures named { IfOk result (λ named. IsNamedBy command.now named) }
-        ensures names_room { IfOk result (λ named. HasRoomFor self.new.naming named) }
+        ensures named { OnOk result (IsNamedBy command.now self.new.naming.last) }
+        ensures names_room { OnOk result (HasRoomFor self.new.naming self.new.naming.last) }
         ensures room { OnOk result (vec_len self.new.commands < vec_capacity self.new.commands) }
         ensures ok { OnOk result (IsKnownOf device targets.now ((on, command.now) ∷ reverse self.old.commands.items) self.new.known) }
         ensures err { OnErr result (self.new.known ≡ self.old.known) }
     {
         self.commands.reserve(1)?;
-        let named = self.naming.prepare(alloc, command)?;
+        self.naming.prepare(command)?;
         self.known.note(
             alloc,
             device,
@@ -61,8 +61,7 @@ impl Kept {
             self.commands.as_slice(),
             on,
             command,
-        )?;
-        Ok(named)
+        )
     }
 
     /// Adds a command.
@@ -81,17 +80,32 @@ impl Kept {
         ensures ok { OnOk result (self.new.commands.items ≡ self.old.commands.items ++ (on, command) ∷ []) }
         ensures err { OnErr result (self.new.commands.items ≡ self.old.commands.items) }
     {
-        let named = match self.prepare(alloc, device, targets, on, &command) {
-            Ok(named) => named,
-            Err(error) => {
-                drop(command);
-                return Err(error);
-            }
-        };
-        self.naming.add(&named);
+        if let Err(error) = self.prepare(alloc, device, targets, on, &command) {
+            drop(command);
+            return Err(error);
+        }
+        self.naming.add();
         self.commands.push_reserved((on, command));
         Ok(())
     }
+}
+
+/// Makes a place for commands. What is made is large, and its room is got ready where a call begins: so this is
+/// no part of `make`, which most often has nothing to do.
+fn make_place(
+    kept: &mut Option<Box<Kept>>,
+    alloc: Global,
+    targets: &Targets,
+) -> Result<(), NoMemory>
+    requires { is_some kept.old ≡ false }
+    ensures some { OnOk result (is_some kept.new ≡ true) }
+    ensures same { commands_of kept.new ≡ commands_of kept.old }
+    ensures kept { (device : ℕ) → IsKeptOf device targets.now kept.old → IsKeptOf device targets.now kept.new }
+    ensures naming { IsNaming kept.old → IsNaming kept.new }
+{
+    let fresh = Kept::new(alloc, targets)?;
+    *kept = Some(Box::new(alloc, fresh)?);
+    Ok(())
 }
 
 /// Makes what is kept, where nothing was.
@@ -104,9 +118,7 @@ fn make(kept: &mut Option<Box<Kept>>, alloc: Global, targets: &Targets) -> Resul
     if kept.is_some() {
         return Ok(());
     }
-    let fresh = Kept::new(alloc, targets)?;
-    *kept = Some(Box::new(alloc, fresh)?);
-    Ok(())
+    make_place(kept, alloc, targets)
 }
 
 /// Keeps a command.

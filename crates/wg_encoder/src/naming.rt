@@ -1,5 +1,5 @@
 //! What kept commands name.
-ghost use Rattle.std.specs.Prelude.{◌≡◌, ◌∷◌, ◌++◌, ◌≤◌, [], List, map, length, nat_eq, IfOk};
+ghost use Rattle.std.specs.Prelude.{◌≡◌, ◌∷◌, ◌++◌, ◌≤◌, [], List, map, length, nat_eq, OnOk};
 ghost use Rattle.indexmap.specs.IndexSet.{insert_all, spare};
 ghost use Rattle.wg_types.specs.declared.commands.On.{On as OnOf};
 ghost use Rattle.wg_types.specs.declared.handles.ObjRef.{ObjRef as ObjRefOf};
@@ -16,19 +16,20 @@ use wg_types::commands::Command;
 use wg_types::handles::ObjRef;
 use wg_types::steps::Used;
 
-/// The resources that commands use, and the numbers of the objects that they name. Each is there once, in the
-/// order in which they first came.
-#[derive(Drop)]
-pub struct Naming {
-    pub uses: IndexSet<Used>,
-    pub objects: IndexSet<u64>,
-}
-
 /// The resources that one command uses, and the objects that it names.
 #[derive(Drop)]
 pub struct Named {
     pub uses: Vec<Used>,
     pub objects: Vec<ObjRef>,
+}
+
+/// The resources that commands use, and the numbers of the objects that they name. Each is there once, in the
+/// order in which they first came. What the last command named is kept too, so that its lists serve the next.
+#[derive(Drop)]
+pub struct Naming {
+    pub uses: IndexSet<Used>,
+    pub objects: IndexSet<u64>,
+    pub last: Named,
 }
 
 /// Adds each of a list that is not there, in room that there is for all.
@@ -63,30 +64,34 @@ impl Naming {
         Naming {
             uses: IndexSet::new(alloc),
             objects: IndexSet::new(alloc),
+            last: Named {
+                uses: Vec::new(alloc),
+                objects: Vec::new(alloc),
+            },
         }
     }
 
-    /// What a command names, for which it makes room.
-    pub fn prepare(&mut self, alloc: Global, command: &Command) -> Result<Named, NoMemory>
+    /// Finds what a command names, and makes room for it.
+    pub fn prepare(&mut self, command: &Command) -> Result<(), NoMemory>
         ensures same { AreSameNames self.old self.new }
-        ensures named { IfOk result (λ named. IsNamedBy command.now named) }
-        ensures room { IfOk result (λ named. HasRoomFor self.new named) }
+        ensures named { OnOk result (IsNamedBy command.now self.new.last) }
+        ensures room { OnOk result (HasRoomFor self.new self.new.last) }
     {
-        let mut uses = Vec::new(alloc);
-        push_uses(&mut uses, command)?;
-        let mut objects = Vec::new(alloc);
-        push_references(&mut objects, command)?;
-        self.uses.reserve(uses.len())?;
-        self.objects.reserve(objects.len())?;
-        Ok(Named { uses, objects })
+        self.last.uses.clear();
+        push_uses(&mut self.last.uses, command)?;
+        self.last.objects.clear();
+        push_references(&mut self.last.objects, command)?;
+        self.uses.reserve(self.last.uses.len())?;
+        self.objects.reserve(self.last.objects.len())?;
+        Ok(())
     }
 
-    /// Adds what a command names, in room that there is.
-    pub fn add(&mut self, named: &Named)
-        requires { HasRoomFor self.old named.now }
-        ensures { (commands : List (OnOf × CommandOf)) (on : OnOf) (command : CommandOf) → AreNamedOnce commands self.old → IsNamedBy command named.now → AreNamedOnce (commands ++ (on, command) ∷ []) self.new }
+    /// Adds what the last command named, in room that there is.
+    pub fn add(&mut self)
+        requires { HasRoomFor self.old self.old.last }
+        ensures { (commands : List (OnOf × CommandOf)) (on : OnOf) (command : CommandOf) → AreNamedOnce commands self.old → IsNamedBy command self.old.last → AreNamedOnce (commands ++ (on, command) ∷ []) self.new }
     {
-        add_each(&mut self.uses, named.uses.as_slice());
-        add_numbers(&mut self.objects, named.objects.as_slice());
+        add_each(&mut self.uses, self.last.uses.as_slice());
+        add_numbers(&mut self.objects, self.last.objects.as_slice());
     }
 }

@@ -7,6 +7,6 @@ use Rattle.wg_encoder.proofs.naming.Naming.add.Goals as goal
 
 pub returns : goal.returns
 returns c = λ commands on command are is.
-    named_more commands on command c.args.self.now (record { uses = c.add_each.new.set; objects = c.add_numbers.new.set }) c.args.named.now are is
+    named_more commands on command c.args.self.now (record { uses = c.add_each.new.set; objects = c.add_numbers.new.set; last = c.args.self.now.last }) c.args.self.now.last are is
     (c.add_each.ensures ∙ ap (λ xs. insert_all eq-value.it c.args.self.now.uses.keys xs) c.as_slice.ensures.value)
     (c.add_numbers.ensures ∙ ap (λ xs. insert_all nat_eq c.args.self.now.objects.keys (map (λ (object : ObjRef). object.number) xs)) c.as_slice-2.ensures.value)
