@@ -140,13 +140,13 @@ pub fn notes_of(
     Ok(fresh)
 }
 
-/// The greatest object of accesses.
-fn top_of(accesses: &[(Cells, AccessKind)]) -> u64 {
-    let mut top = 0;
+/// The number behind the greatest object of accesses.
+fn end_of(accesses: &[(Cells, AccessKind)]) -> u64 {
+    let mut end = 0;
     for access in accesses {
-        top = top.max(row_object(row_of(access.0)));
+        end = row_object(row_of(access.0)).saturating_add(1).max(end);
     }
-    top
+    end
 }
 
 /// Notes accesses in kept rows, which are made of objects that had none.
@@ -160,11 +160,11 @@ pub fn note_in(
     ensures unchanged { OnErr result (kept.new.items ≡ kept.old.items) }
 {
     let alloc = kept.allocator();
-    let top = top_of(accesses);
-    let begun = begin_to(alloc, kept, top)?;
+    let end = end_of(accesses);
+    let begun = begin_to(alloc, kept, end)?;
     let fresh = notes_of(alloc, kept, begun, accesses)?;
-    reserve_to(kept, top)?;
-    grow(kept, top);
+    reserve_to(kept, end)?;
+    grow(kept, end);
     place(kept, fresh);
     Ok(())
 }
