@@ -139,8 +139,8 @@ impl Life {
     {
         self.holders.reserve(links)?;
         if self.spare == 0 {
-            self.rows.reserve()?;
-            self.lost.reserve()?;
+            self.rows.reserve(1)?;
+            self.lost.reserve(1)?;
             self.live.reserve()?;
             let Some(more) = (self.live.count() as usize).checked_add(1) else {
                 return Err(NoMemory);
