@@ -1,5 +1,5 @@
 //! The cells that are set.
-ghost use Rattle.std.specs.Prelude.{◌≡◌, ◌<◌, ◌≤◌, ◌-◌, false, List, [], ◌∷◌, ◌++◌, IfOk, IfSome, MatchOption, OnOk, OnErr, map};
+ghost use Rattle.std.specs.Prelude.{◌≡◌, ℕ, ◌<◌, ◌≤◌, ◌-◌, ◌==◌, ◌&&◌, not, false, List, [], ◌∷◌, ◌++◌, IfOk, IfSome, MatchOption, OnOk, OnErr, map};
 ghost use Rattle.wg_fading.specs.Fading.{is_kept};
 ghost use Rattle.wg_orders.specs.Steps.{Step};
 ghost use Rattle.wg_orders.specs.Trace.{Item, steps_of};
@@ -128,8 +128,10 @@ impl CellState {
     }
 
     /// Gives back the rows of an object, if it has some.
+    #[tactic(auto, using(crate::proofs::Going::one_gone, crate::proofs::Going::none_gone))]
     pub fn let_go(&mut self, object: u64)
         ensures items { self.new.items ≡ self.old.items }
+        ensures kept { (n : ℕ) → is_kept self.new n ≡ (is_kept self.old n && not (object == n)) }
         ensures spare { self.new.spare ≡ self.old.spare }
     {
         if self.kept.is_kept(object) {
