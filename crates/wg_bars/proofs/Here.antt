@@ -120,9 +120,9 @@ begun_none kept = record { past = λ object noted. absurd (true≢false (sym not
 pub begun_more : {A : Type 0} (kept : FadingValue (List A)) (next : ℕ) (fresh new : List (ℕ × List A)) → AreBegun kept next fresh → length kept.items ≤ next → SetsNote fresh next [] new → AddsNote fresh next new → AreBegun kept (next + 1) new
 begun_more {A} kept next fresh new begun past sets added =
     record {
-        past = λ object noted. past_by object (next == object) refl (sym (added object) ∙ noted);
-        within = λ object noted. within_by object (next == object) refl (sym (added object) ∙ noted);
-        same = λ object. sets object (rows_in kept.items object) ∙ same_by object (next == object) refl
+      past = λ object noted. past_by object (next == object) refl (sym (added object) ∙ noted);
+      within = λ object noted. within_by object (next == object) refl (sym (added object) ∙ noted);
+      same = λ object. sets object (rows_in kept.items object) ∙ same_by object (next == object) refl;
     }
   where
     past_by : (object : ℕ) (b : Bool) → (next == object) ≡ b → (if b then true else is_noted fresh object) ≡ true → length kept.items ≤ object
@@ -140,9 +140,9 @@ begun_more {A} kept next fresh new begun past sets added =
 pub begun_all : {A : Type 0} (kept : FadingValue (List A)) (next end : ℕ) (fresh : List (ℕ × List A)) → AreBegun kept next fresh → next ≤ max end (length kept.items) → AreBegun kept end fresh
 begun_all kept next end fresh begun few =
     record {
-        past = begun.past;
-        within = λ object noted. omega (arith, begun.past object noted, begun.within object noted, few);
-        same = begun.same
+      past = begun.past;
+      within = λ object noted. omega (arith, begun.past object noted, begun.within object noted, few);
+      same = begun.same;
     }
 
 -- A copy of a list, made of its elements one after another.
