@@ -1,3 +1,4 @@
 pub mod Effects
 pub mod UnsetCells
 pub mod Notes
+pub mod Going
