@@ -2,11 +2,12 @@
 ghost use Rattle.std.specs.Prelude.{◌≡◌, ◌<◌, ◌≤◌, ◌-◌, List, [], ◌∷◌, ◌++◌, IfOk, OnOk};
 ghost use Rattle.wg_orders.specs.Steps.{Step};
 ghost use Rattle.wg_orders.specs.Trace.{Item, steps_of};
+ghost use Rattle.wg_bars.specs.Kept.{gone_with};
 ghost use Rattle.wg_cbtrack.specs.Adds.{now_of};
 ghost use Rattle.wg_cbtrack.specs.Group.{placed_all};
 ghost use Rattle.wg_cbtrack.specs.Plans.{PlanValue};
 ghost use Rattle.wg_cbtrack.specs.Ready.{IsPlanned, IsReady};
-ghost use Rattle.wg_cbtrack.specs.Stands.{Stands};
+ghost use Rattle.wg_cbtrack.specs.Stands.{kept_last, kept_cells, Stands};
 
 use crate::plan::Plan;
 use crate::track::CbTrack;
@@ -64,6 +65,8 @@ impl Tracker {
         requires { 0 < self.old.spare }
         ensures last { self.new.last ≡ self.old.last ++ [] ∷ [] }
         ensures cells { self.new.cells ≡ self.old.cells ++ [] ∷ [] }
+        ensures last_gone { self.new.last_gone ≡ self.old.last_gone }
+        ensures cells_gone { self.new.cells_gone ≡ self.old.cells_gone }
         ensures stands { (steps : List Step) → Stands self.old steps → Stands self.new steps }
         ensures spare { self.new.spare ≡ self.old.spare - 1 }
     {
@@ -75,6 +78,8 @@ impl Tracker {
     pub fn let_go(&mut self, object: u64)
         ensures last { self.new.last ≡ self.old.last }
         ensures cells { self.new.cells ≡ self.old.cells }
+        ensures last_gone { self.new.last_gone ≡ gone_with (kept_last self.old) object }
+        ensures cells_gone { self.new.cells_gone ≡ gone_with (kept_cells self.old) object }
         ensures stands { (steps : List Step) → Stands self.old steps → Stands self.new steps }
         ensures spare { self.new.spare ≡ self.old.spare }
     {
