@@ -70,7 +70,10 @@ fn barred(
 
 /// Whether a state has these rows of an object.
 fn is_row(state: &LastUse, object: u64, rows: &[(PartRun, Usages)]) -> bool {
-    state.rows_of(object) == rows
+    match state.rows_of(object) {
+        Some(found) => found == rows,
+        None => rows.is_empty(),
+    }
 }
 
 /// The barriers of three steps, and the rows after them.
