@@ -1,4 +1,3 @@
 pub mod Effects
 pub mod UnsetCells
 pub mod Notes
-pub mod Going

@@ -1,10 +1,10 @@
 //! The cells that are set.
-ghost use Rattle.std.specs.Prelude.{◌≡◌, ℕ, ◌<◌, ◌≤◌, ◌-◌, ◌==◌, ◌&&◌, not, false, List, [], ◌∷◌, ◌++◌, IfOk, IfSome, MatchOption, OnOk, OnErr, map};
+ghost use Rattle.std.specs.Prelude.{◌≡◌, ◌<◌, ◌≤◌, ◌-◌, false, List, [], ◌∷◌, ◌++◌, IfOk, IfSome, MatchOption, OnOk, OnErr, map};
 ghost use Rattle.wg_fading.specs.Fading.{is_kept};
 ghost use Rattle.wg_orders.specs.Steps.{Step};
 ghost use Rattle.wg_orders.specs.Trace.{Item, steps_of};
 ghost use Rattle.wg_num.specs.Runs.{AreApart};
-ghost use Rattle.wg_bars.specs.Kept.{rows_in, with_notes, AreHere};
+ghost use Rattle.wg_bars.specs.Kept.{rows_in, with_notes, gone_with, AreHere};
 ghost use Rattle.wg_init.specs.Rows.{row_line, row_object, runs_in, KeepsSet, RunsApart};
 ghost use Rattle.wg_init.specs.Effects.{IsNoted};
 ghost use Rattle.wg_init.specs.Unset.{written, cleared};
@@ -128,10 +128,9 @@ impl CellState {
     }
 
     /// Gives back the rows of an object, if it has some.
-    #[tactic(auto, using(crate::proofs::Going::one_gone, crate::proofs::Going::none_gone))]
     pub fn let_go(&mut self, object: u64)
         ensures items { self.new.items ≡ self.old.items }
-        ensures kept { (n : ℕ) → is_kept self.new n ≡ (is_kept self.old n && not (object == n)) }
+        ensures gone { self.new.gone ≡ gone_with self.old object }
         ensures spare { self.new.spare ≡ self.old.spare }
     {
         if self.kept.is_kept(object) {
