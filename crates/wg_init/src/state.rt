@@ -4,7 +4,7 @@ ghost use Rattle.wg_fading.specs.Fading.{is_kept};
 ghost use Rattle.wg_orders.specs.Steps.{Step};
 ghost use Rattle.wg_orders.specs.Trace.{Item, steps_of};
 ghost use Rattle.wg_num.specs.Runs.{AreApart};
-ghost use Rattle.wg_bars.specs.Kept.{rows_in, with_notes, AreHere};
+ghost use Rattle.wg_bars.specs.Kept.{rows_in, with_notes, gone_with, AreHere};
 ghost use Rattle.wg_init.specs.Rows.{row_line, row_object, runs_in, KeepsSet, RunsApart};
 ghost use Rattle.wg_init.specs.Effects.{IsNoted};
 ghost use Rattle.wg_init.specs.Unset.{written, cleared};
@@ -131,6 +131,7 @@ impl CellState {
     #[tactic(auto, using(crate::proofs::Going::one_gone, crate::proofs::Going::none_gone))]
     pub fn let_go(&mut self, object: u64)
         ensures items { self.new.items ≡ self.old.items }
+        ensures gone { self.new.gone ≡ gone_with self.old object }
         ensures kept { (n : ℕ) → is_kept self.new n ≡ (is_kept self.old n && not (object == n)) }
         ensures spare { self.new.spare ≡ self.old.spare }
     {

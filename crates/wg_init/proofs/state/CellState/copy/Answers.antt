@@ -1,4 +1,4 @@
-use Rattle.std.proofs.Common.{◌≡◌, ◌++◌, ◌∷◌, [], ◌∙◌, ap, ap₂, arith}
+use Rattle.std.proofs.Common.{◌≡◌, ◌++◌, ◌∷◌, [], ◌∙◌, ap₂, arith}
 use Rattle.std.specs.List.{slice_get}
 use Rattle.std.specs.Prelude.{Some}
 use Rattle.std.proofs.lemmas.Option.{slice_get_within}

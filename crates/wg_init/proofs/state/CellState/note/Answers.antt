@@ -8,8 +8,8 @@ pub invariant_of-self-2 : goal.invariant_of-self-2
 invariant_of-self-2 c =
     let noted = rw c.as_slice.ensures at c.in_ok-note_in.ensures.noted in
     record {
-        apart = after_apart c.self.inside.kept.items c.note_in.new.kept.items c.args.step.now.accesses noted c.self.invariant.apart;
-        made = c.note_in.ensures.made
+      apart = after_apart c.self.inside.kept.items c.note_in.new.kept.items c.args.step.now.accesses noted c.self.invariant.apart;
+      made = c.note_in.ensures.made;
     }
 
 pub returns-clause-keeps : goal.returns-clause-keeps
