@@ -1,4 +1,4 @@
-use Rattle.std.proofs.Common.{◌≡◌, ap, sym, subst, subst₂}
+use Rattle.std.proofs.Common.{◌≡◌, List, ap, sym, subst, subst₂}
 use Rattle.wg_orders.specs.Steps.{StepPlace}
 use Rattle.wg_orders.specs.Trace.{add_group}
 use Rattle.wg_fading.specs.Fading.{FadingValue}

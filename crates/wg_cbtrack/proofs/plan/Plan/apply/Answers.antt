@@ -1,4 +1,4 @@
-use Rattle.std.proofs.Common.{◌≡◌, ◌∙◌, ap}
+use Rattle.std.proofs.Common.{◌∙◌, ap}
 use Rattle.wg_cbtrack.specs.Stands.{TrackerValue, tracker_of}
 use Rattle.wg_cbtrack.specs.Plans.{PlanValue}
 use Rattle.wg_cbtrack.specs.Adds.{now_of}
