@@ -71,13 +71,6 @@ note_is kept grown noted xs begun fresh none notes same put object =
     ∙ (notes object
     ∙ ap (rows_after object xs) (none object))))
 
--- Rows that are the same are apart and stand for the same steps.
-pub same_apart : (kept other : SetRows) → SameRows kept other → RunsApart kept → RunsApart other
-same_apart kept other same apart object line = subst (λ rows. AreApart 0 (runs_in rows line)) (sym (same object)) (apart object line)
-
-pub same_keeps : (kept other : SetRows) (steps : List Step) → SameRows kept other → KeepsSet kept steps → KeepsSet other steps
-same_keeps kept other steps same keeps c = ap (λ rows. is_in (runs_in rows (cell_spot c).0) (cell_spot c).1) (same (line_object (cell_spot c).0)) ∙ keeps c
-
 -- The runs stay apart.
 effect_apart : (kind : AccessKind) (lo hi : ℕ) (runs : Runs) → AreApart 0 runs → AreApart 0 (effect kind lo hi runs)
 effect_apart kind lo hi runs a = by_kind (kind_unsets kind) (nat_lt lo hi) refl
