@@ -71,10 +71,7 @@ note_is kept grown noted xs begun fresh none notes same put object =
     ∙ (notes object
     ∙ ap (rows_after object xs) (none object))))
 
--- Rows that are the same are apart and stand for the same steps.
-pub same_apart : (kept other : SetRows) → SameRows kept other → RunsApart kept → RunsApart other
-same_apart kept other same apart object line = subst (λ rows. AreApart 0 (runs_in rows line)) (sym (same object)) (apart object line)
-
+-- Rows that are the same stand for the same steps.
 pub same_keeps : (kept other : SetRows) (steps : List Step) → SameRows kept other → KeepsSet kept steps → KeepsSet other steps
 same_keeps kept other steps same keeps c = ap (λ rows. is_in (runs_in rows (cell_spot c).0) (cell_spot c).1) (same (line_object (cell_spot c).0)) ∙ keeps c
 
