@@ -3,9 +3,8 @@ use Rattle.std.proofs.Common.{◌≡◌, ℕ, zero, suc, ◌<◌, ◌≤◌, ◌
 use Rattle.std.specs.Prelude.{max}
 use Rattle.std.proofs.lemmas.List.{get_or_past, drop_more}
 use Rattle.std.proofs.lemmas.Option.{slice_get_within, get_or_from_slice_get}
-use Rattle.std.proofs.lemmas.Bool.{and_parts, or_cases, ltb-true, lt-ltb, eqb-true, eq-eqb}
+use Rattle.std.proofs.lemmas.Bool.{and_parts, or_cases, ltb-true, eqb-true, eq-eqb}
 use Rattle.wg_fading.specs.Fading.{FadingValue, was_let_go, is_kept}
-use Rattle.wg_fading.proofs.Keeping.{gone_cases}
 use Rattle.wg_bars.specs.Kept.{rows_in, over, with_rows, with_notes, is_noted, SetsNote, AddsNote, AddsKept, AreHere, AreMade, AreBegun}
 
 -- No notes have no objects.
@@ -89,29 +88,6 @@ pub made_longer : {A : Type 0} (kept other : FadingValue (List A)) → AreMade k
 made_longer kept other made gone longer object was =
     let lt : object < length kept.items = made object (ap (λ ns. was_let_go ns object) (sym gone) ∙ was) in
     omega (arith, lt, longer)
-
-pub made_less : {A : Type 0} (kept other : FadingValue (List A)) (object : ℕ) → AreMade kept → is_kept kept object ≡ true → other.items ≡ kept.items → other.gone ≡ kept.gone ++ object ∷ [] → AreMade other
-made_less kept other object made is items gone m was =
-    let length_is : length other.items ≡ length kept.items = ap length items in
-    elim (gone_cases kept.gone object m (ap (λ ns. was_let_go ns m) (sym gone) ∙ was)) [
-      | inl before ↦ (let lt : m < length kept.items = made m before in omega (arith, lt, length_is))
-      | inr same ↦ (let lt : object < length kept.items = kept_within kept object is in omega (arith, lt, length_is, same))
-    ]
-
--- Notes over those of objects that have no rows yet are of objects that are here once these have rows.
-pub grown_here : {A : Type 0} (kept grown : FadingValue (List A)) (end : ℕ) (begun fresh : List (ℕ × List A)) → AreMade kept → AreBegun kept end begun → AddsKept kept begun fresh → length kept.items ≤ length grown.items → end ≤ length grown.items → grown.gone ≡ kept.gone → AreHere grown fresh
-grown_here {A} kept grown end begun fresh made is_begun adds longer reached gone object noted =
-    elim (or_cases (is_noted begun object) (is_kept kept object) (adds object noted)) [
-      | inl new ↦ is_here (omega (arith, is_begun.within object new, reached)) (not_gone (was_let_go kept.gone object) refl (is_begun.past object new))
-      | inr is ↦ is_here (omega (arith, kept_within kept object is, longer)) (and_parts (nat_lt object (length kept.items)) (not (was_let_go kept.gone object)) is).1
-    ]
-  where
-    is_here : object < length grown.items → not (was_let_go kept.gone object) ≡ true → is_kept grown object ≡ true
-    is_here lt here = ap₂ (λ (a b : Bool). a && b) (lt-ltb object (length grown.items) lt) (ap (λ ns. not (was_let_go ns object)) gone ∙ here)
-
-    not_gone : (b : Bool) → was_let_go kept.gone object ≡ b → length kept.items ≤ object → not b ≡ true
-    not_gone true was past = absurd (omega (arith, made object was, past))
-    not_gone false was past = refl
 
 -- Notes of objects that have no rows yet, one more of which has none.
 pub begun_none : {A : Type 0} (kept : FadingValue (List A)) → AreBegun kept (length kept.items) []
