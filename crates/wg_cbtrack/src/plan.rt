@@ -69,9 +69,8 @@ impl Plan {
     }
 
     /// Adds what one command buffer of a tracker's steps adds after the trace and the items so
-    /// far. It leaves the states as they are; without memory there is no plan. Nor is there one without rows
-    /// of an object that a step uses or writes: a device has none of such steps, since it makes the rows of
-    /// each object as it is made, and lets them go when nothing can use it again.
+    /// far. It leaves the states as they are; without memory, or rows of an object that a step uses or
+    /// accesses, there is no plan.
     pub fn add(self, track: &CbTrack, last: &LastUse, cells: &CellState) -> Result<Plan, NoMemory>
         ensures place { IfOk result (λ p. p.place ≡ self.place) }
         ensures added { IfOk result (λ p. (f : List Item → List Item) →
@@ -84,7 +83,8 @@ impl Plan {
     }
 
     /// Adds what one step does, as a command buffer of its own, after the trace and the items so
-    /// far. It leaves the states as they are; without memory, or rows of an object, there is no plan.
+    /// far. It leaves the states as they are; without memory, or rows of an object that the step uses or
+    /// accesses, there is no plan.
     pub fn add_alone(self, step: Step, last: &LastUse, cells: &CellState) -> Result<Plan, NoMemory>
         ensures place { IfOk result (λ p. p.place ≡ self.place) }
         ensures added { IfOk result (λ p. (f : List Item → List Item) →

@@ -96,7 +96,9 @@ impl Tracker {
     }
 
     /// Plans the steps of one command buffer at the place of the plan, after those that were planned. It
-    /// leaves the tracker as it is; without memory there is no plan.
+    /// leaves the tracker as it is; without memory there is no plan. Nor is there one without rows of an object
+    /// that a step uses or accesses, as no step of a device does: it makes the rows of each object as it is
+    /// made, and lets them go when nothing can use it again.
     pub fn add(&self, plan: Plan, track: &CbTrack) -> Result<Plan, NoMemory>
         ensures place { IfOk result (λ p. p.place ≡ plan.place) }
         ensures planned { IfOk result (λ p. (groups : List (List Step)) →
@@ -106,7 +108,7 @@ impl Tracker {
         Ok(more)
     }
 
-    /// Plans one step, as a command buffer of its own.
+    /// Plans one step, as a command buffer of its own. Without memory, or rows of an object, there is no plan.
     pub fn add_step(&self, alloc: Global, plan: Plan, step: Step) -> Result<Plan, NoMemory>
         requires { step.place ≡ plan.place }
         ensures place { IfOk result (λ p. p.place ≡ plan.place) }

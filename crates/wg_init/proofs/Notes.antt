@@ -1,16 +1,15 @@
 -- Notes of accesses.
 use Rattle.std.proofs.Common.{◌≡◌, ℕ, ◌+◌, ◌<◌, ◌&&◌, List, [], ◌∷◌, length, drop, get_or, Bool, true, false, ◌==◌, refl, ap, sym, ◌∙◌, if◌then◌else◌, subst, eqb-true, true≢false, nat_lt, arith}
 use Rattle.std.proofs.lemmas.List.{at_drop_more}
-use Rattle.wg_rows.specs.Runs.{Cells, cell_spot, cell_line, cell_lo, cell_hi}
+use Rattle.wg_rows.specs.Runs.{Cells, cell_line, cell_lo, cell_hi}
 use Rattle.wg_rows.specs.Uses.{AccessKind, kind_writes, kind_unsets}
-use Rattle.wg_orders.specs.Steps.{Step}
 use Rattle.std.proofs.lemmas.Bool.{ltb-true, lt-leb}
-use Rattle.wg_rows.specs.Rows.{line_object, list_eq}
-use Rattle.wg_num.specs.Runs.{Runs, AreApart, is_in, insert_run, remove_run, with_run, cut_runs, covers_run}
+use Rattle.wg_rows.specs.Rows.{list_eq}
+use Rattle.wg_num.specs.Runs.{Runs, AreApart, insert_run, remove_run, with_run, cut_runs, covers_run}
 use Rattle.wg_num.proofs.Members.{with_apart, cut_apart}
 use Rattle.wg_init.proofs.Effects.{runs_with}
 use Rattle.wg_bars.specs.Kept.{rows_in, over, with_notes, SetsNote, SameRows}
-use Rattle.wg_init.specs.Rows.{row_line, row_of, row_object, SetRow, SetRows, runs_in, KeepsSet, RunsApart}
+use Rattle.wg_init.specs.Rows.{row_line, row_of, row_object, SetRow, SetRows, runs_in, RunsApart}
 use Rattle.wg_init.specs.Effects.{effect, with_effect, is_full, changes_at, rows_after, IsAfter, AreNotes, NotesOne}
 use Rattle.wg_bars.proofs.Notes.{noted_rows}
 
