@@ -1,15 +1,16 @@
 -- Notes of accesses.
 use Rattle.std.proofs.Common.{◌≡◌, ℕ, ◌+◌, ◌<◌, ◌&&◌, List, [], ◌∷◌, length, drop, get_or, Bool, true, false, ◌==◌, refl, ap, sym, ◌∙◌, if◌then◌else◌, subst, eqb-true, true≢false, nat_lt, arith}
 use Rattle.std.proofs.lemmas.List.{at_drop_more}
-use Rattle.wg_rows.specs.Runs.{Cells, cell_line, cell_lo, cell_hi}
+use Rattle.wg_rows.specs.Runs.{Cells, cell_spot, cell_line, cell_lo, cell_hi}
 use Rattle.wg_rows.specs.Uses.{AccessKind, kind_writes, kind_unsets}
+use Rattle.wg_orders.specs.Steps.{Step}
 use Rattle.std.proofs.lemmas.Bool.{ltb-true, lt-leb}
-use Rattle.wg_rows.specs.Rows.{list_eq}
-use Rattle.wg_num.specs.Runs.{Runs, AreApart, insert_run, remove_run, with_run, cut_runs, covers_run}
+use Rattle.wg_rows.specs.Rows.{line_object, list_eq}
+use Rattle.wg_num.specs.Runs.{Runs, AreApart, is_in, insert_run, remove_run, with_run, cut_runs, covers_run}
 use Rattle.wg_num.proofs.Members.{with_apart, cut_apart}
 use Rattle.wg_init.proofs.Effects.{runs_with}
 use Rattle.wg_bars.specs.Kept.{rows_in, over, with_notes, SetsNote, SameRows}
-use Rattle.wg_init.specs.Rows.{row_line, row_of, row_object, SetRow, SetRows, runs_in, RunsApart}
+use Rattle.wg_init.specs.Rows.{row_line, row_of, row_object, SetRow, SetRows, runs_in, KeepsSet, RunsApart}
 use Rattle.wg_init.specs.Effects.{effect, with_effect, is_full, changes_at, rows_after, IsAfter, AreNotes, NotesOne}
 use Rattle.wg_bars.proofs.Notes.{noted_rows}
 
@@ -97,3 +98,11 @@ rows_apart object (x ∷ xs) rows a = rows_apart object xs (if changes_at object
 
 pub after_apart : (kept noted : SetRows) (xs : List (Cells × AccessKind)) → IsAfter kept xs noted → RunsApart kept → RunsApart noted
 after_apart kept noted xs is apart object line = subst (λ rows. AreApart 0 (runs_in rows line)) (sym (is object)) (rows_apart object xs (rows_in kept object) (apart object) line)
+
+-- Rows with notes over them that change none are apart, and stand for the same steps.
+pub begun_apart : (kept : SetRows) (fresh : List (ℕ × List SetRow)) → ((object : ℕ) → over fresh object (rows_in kept object) ≡ rows_in kept object) → RunsApart kept → RunsApart (with_notes kept fresh)
+begun_apart kept fresh same apart object line = subst (λ rows. AreApart 0 (runs_in rows line)) (sym (noted_rows kept fresh object ∙ same object)) (apart object line)
+
+pub begun_keeps : (kept : SetRows) (fresh : List (ℕ × List SetRow)) (steps : List Step) → ((object : ℕ) → over fresh object (rows_in kept object) ≡ rows_in kept object) → KeepsSet kept steps → KeepsSet (with_notes kept fresh) steps
+begun_keeps kept fresh steps same keeps c =
+    ap (λ rows. is_in (runs_in rows (cell_spot c).0) (cell_spot c).1) (noted_rows kept fresh (line_object (cell_spot c).0) ∙ same (line_object (cell_spot c).0)) ∙ keeps c

@@ -141,7 +141,7 @@ pub fn notes_of(
 }
 
 /// The number behind the greatest object of accesses.
-fn end_of(accesses: &[(Cells, AccessKind)]) -> u64 {
+pub(crate) fn end_of(accesses: &[(Cells, AccessKind)]) -> u64 {
     let mut end = 0;
     for access in accesses {
         end = row_object(row_of(access.0)).saturating_add(1).max(end);

@@ -11,11 +11,11 @@ ghost use Rattle.wg_init.specs.Unset.{written, cleared};
 
 use crate::cell_row::CellRow;
 use crate::cells::row_object;
-use crate::noting::{note_in, push_copies};
+use crate::noting::{end_of, note_in, push_copies};
 use crate::unset::{cells_of, runs_in, unset_rows};
 use std::alloc::Global;
 use std::marker::Model;
-use wg_bars::kept::{Notes, place, rows_in};
+use wg_bars::kept::{Notes, begin_to, place, rows_in};
 use wg_entry::NoMemory;
 use wg_fading::Fading;
 use wg_num::RunSet;
@@ -71,18 +71,16 @@ impl CellState {
     }
 
     /// The cells that a step reads and that are unset, as they are printed: those that the clear
-    /// before the step writes.
+    /// before the step writes. An object that has no rows yet has none; one whose rows were let go is refused
+    /// as want of memory.
     pub fn unset(&self, step: &Step) -> Result<Vec<Cells>, NoMemory>
         ensures { IfOk result (λ v. (trace : List Item) →
             KeepsSet self.now.items (steps_of trace) → map written v.items ≡ cleared trace step.now) }
     {
         let alloc = self.kept.allocator();
-        let found = unset_rows(
-            alloc,
-            &self.kept,
-            &Notes::new(alloc),
-            step.accesses.as_slice(),
-        )?;
+        let accesses = step.accesses.as_slice();
+        let begun = begin_to(alloc, &self.kept, end_of(accesses))?;
+        let found = unset_rows(alloc, &self.kept, &begun, accesses)?;
         let cells = cells_of(alloc, found.as_slice())?;
         Ok(cells)
     }
