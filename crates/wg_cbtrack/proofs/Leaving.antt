@@ -156,10 +156,10 @@ put_any_all spot test r (p ∷ ps) rows = put_any_all spot test r ps (put cell_s
 abbrev pub PiecesAre : AccessKind → (Cell → Bool) → (Cells → List (Cells × AccessKind)) → Type 0
 PiecesAre kind passes pieces = (run : Cells) → is_full run ≡ true → Loose cell_sort (pieces run) × Each_value kind (pieces run) × ((c : Cell) → value_at cell_sort (cell_spot c) (pieces run) ≡ (if covers_spot cell_sort run (cell_spot c) && passes c then Some kind else None))
 
-abbrev WithPieces : AccessKind → (Cell → Bool) → (Cells → List (Cells × AccessKind)) → List (Cells × AccessKind) → List (Cells × AccessKind) → Type 0
+abbrev pub WithPieces : AccessKind → (Cell → Bool) → (Cells → List (Cells × AccessKind)) → List (Cells × AccessKind) → List (Cells × AccessKind) → Type 0
 WithPieces kind passes pieces xs rows = Each_value kind (with_pieces pieces xs rows) × Apart cell_sort (with_pieces pieces xs rows) × ((c : Cell) (test : AccessKind → Bool) → Respects same_kind test → any_row (λ run. covers_spot cell_sort run (cell_spot c)) test (with_pieces pieces xs rows) ≡ (any_row (λ run. covers_spot cell_sort run (cell_spot c)) test rows || ((any_row (λ run. covers_spot cell_sort run (cell_spot c)) kind_reads xs && passes c) && test kind)))
 
-pieces_put : (kind : AccessKind) (passes : Cell → Bool) (pieces : Cells → List (Cells × AccessKind)) → PiecesAre kind passes pieces → (xs rows : List (Cells × AccessKind)) → Each_value kind rows → Apart cell_sort rows → WithPieces kind passes pieces xs rows
+pub pieces_put : (kind : AccessKind) (passes : Cell → Bool) (pieces : Cells → List (Cells × AccessKind)) → PiecesAre kind passes pieces → (xs rows : List (Cells × AccessKind)) → Each_value kind rows → Apart cell_sort rows → WithPieces kind passes pieces xs rows
 pieces_put kind passes pieces each [] rows h a = (h, a, λ c test r. sym (or_none (any_row (λ run. covers_spot cell_sort run (cell_spot c)) test rows)))
   where
     or_none : (b : Bool) → (b || false) ≡ b

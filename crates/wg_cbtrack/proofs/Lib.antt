@@ -21,4 +21,5 @@ pub mod Covering
 pub mod Opening
 pub mod Nearing
 pub mod Placing
+pub mod Reading
 pub mod Single

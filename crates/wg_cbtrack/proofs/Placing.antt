@@ -53,7 +53,7 @@ few_put sort same (x ∷ (y ∷ ys)) l = absurd (omega (arith, l))
 pub needs_put : (wants : List (Cells × AccessKind)) (needs : List Cells) (i n : ℕ) (all : Cells × AccessKind) → needs ≡ map (λ (row : Cells × AccessKind). row.0) wants → take i needs ++ (all.0 ∷ drop n needs) ≡ map (λ (row : Cells × AccessKind). row.0) (take i wants ++ (all ∷ drop n wants))
 needs_put wants needs i n all e = ap₂ (λ (xs ys : List Cells). xs ++ (all.0 ∷ ys)) (ap (take i) e ∙ take-map (λ (row : Cells × AccessKind). row.0) i wants) (ap (drop n) e ∙ drop-map (λ (row : Cells × AccessKind). row.0) n wants) ∙ sym (map-append (λ (row : Cells × AccessKind). row.0) (take i wants) (all ∷ drop n wants))
 
-next : {A : Type 0} (xs : List A) (i : ℕ) (d : A) → i < length xs → drop i xs ≡ get_or xs i d ∷ drop (i + 1) xs
+pub next : {A : Type 0} (xs : List A) (i : ℕ) (d : A) → i < length xs → drop i xs ≡ get_or xs i d ∷ drop (i + 1) xs
 next xs i d l = drop-cons xs i d l ∙ ap (λ n. get_or xs i d ∷ drop n xs) (sym (add-one i))
 
 fewer : {A : Type 0} (xs : List A) (i : ℕ) (d : A) → i < length xs → length (drop i xs) ≡ length (drop (i + 1) xs) + 1

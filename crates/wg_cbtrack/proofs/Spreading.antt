@@ -1,5 +1,5 @@
 -- Uses of which each is the only one of its object, over rows that have no other part of it.
-use Rattle.std.proofs.Common.{◌≡◌, ℕ, ◌<◌, min, max, List, [], ◌∷◌, ◌++◌, Bool, true, false, ◌||◌, ◌&&◌, ◌==◌, inl, Option, Some, None, refl, ap, ap₂, sym, ◌∙◌, arith, if◌then◌else◌, nat_lt, subst, true≢false, eqb-true, eq-eqb, length, drop, get_or, drop-cons, add-one, ◌+◌}
+use Rattle.std.proofs.Common.{◌≡◌, ℕ, ◌<◌, min, max, List, [], ◌∷◌, ◌++◌, Bool, true, false, ◌||◌, ◌&&◌, ◌==◌, Option, Some, None, refl, ap, ap₂, sym, ◌∙◌, arith, if◌then◌else◌, nat_lt, subst, true≢false, eqb-true, eq-eqb, length, drop, get_or, drop-cons, add-one, ◌+◌}
 use Rattle.std.specs.List.{flat_map}
 use Rattle.std.proofs.lemmas.Bool.{and_parts, ltb-true, or_left}
 use Rattle.wg_rows.specs.Rows.{Spot, line_object, covers_spot, EachRow, Apart, list_eq, list_before, run_before, joined, touch, put_at, put}
@@ -32,11 +32,6 @@ spread_told (u ∷ us) e =
     let rest : Spread us = spread_told us both.1 in
     (ltb-true (part_lo u.0) (part_hi u.0) tests.0, below_all u us both.0 rest, rest)
 
--- They are in printed form.
-pub spread_apart : (us : List UseRow) → Spread us → Apart part_sort us
-spread_apart [] h = tt
-spread_apart (u ∷ us) h = (h.0, each_row_map (λ v. use_object u < use_object v) _ (λ v l. inl (lines_before (part_line u.0) (part_line v.0) l)) us h.1, spread_apart us h.2)
-
 -- A use in place of what its object has.
 abbrev pub PutsOne : UseRow → List UseRow → List UseRow → Type 0
 PutsOne u rows next = next ≡ rows_below use_object (use_object u) rows ++ (u ∷ rows_above use_object (use_object u) rows)
@@ -46,10 +41,6 @@ none_exchanged object mine rows a = record { ordered = a; each = λ o. refl }
 
 put_exchanged : (u : UseRow) (rows next : List UseRow) → Apart part_sort rows → PutsOne u rows next → AreExchanged use_object (use_object u ∷ []) (u ∷ []) rows next
 put_exchanged u rows next a e = exchanged_one use_object [] (use_object u) (u ∷ []) rows rows next (tt, tt) (none_exchanged use_object (u ∷ []) rows (apart_ordered part_sort rows a)) (e ∙ ap (λ xs. rows_below use_object (use_object u) rows ++ (xs ++ rows_above use_object (use_object u) rows)) (sym (first_of use_object u [])))
-
-or_none : (b : Bool) → (b || false) ≡ b
-or_none true = refl
-or_none false = refl
 
 no_value : (spot : Spot) (run : PartRun) (set : Option Usages) → covers_spot part_sort run spot ≡ false → value_at part_sort spot (with_set run set) ≡ None
 no_value spot run None e = refl

@@ -101,7 +101,7 @@ struct Next {
 }
 
 /// An equal deed.
-pub fn copy_of(alloc: Global, deed: &Deed) -> Result<Deed, NoMemory>
+fn copy_of(alloc: Global, deed: &Deed) -> Result<Deed, NoMemory>
     ensures { IfOk result (λ other. other ≡ deed.now) }
 {
     let uses = Vec::from_slice(alloc, deed.uses.as_slice())?;

@@ -1,8 +1,9 @@
 //! What a step reads of the cells of a tracker, found with one look at what is left of each run.
-ghost use Rattle.std.specs.Prelude.{◌≡◌, ◌<◌, List, [], ◌∷◌, IsTrue, IfOk, IfSome, OnOk};
+ghost use Rattle.std.specs.Prelude.{◌≡◌, ◌<◌, ◌&&◌, true, List, [], ◌∷◌, IsTrue, IfOk, IfSome, OnOk};
 ghost use Rattle.wg_rows.specs.Cut.{put_all};
 ghost use Rattle.wg_rows.specs.Runs.{Cells, cell_sort, cell_lo, cell_hi};
-ghost use Rattle.wg_rows.specs.Uses.{AccessKind, Read, same_kind};
+ghost use Rattle.wg_rows.specs.Uses.{AccessKind, Read, same_kind, kind_reads};
+ghost use Rattle.wg_init.specs.Effects.{is_full};
 ghost use Rattle.wg_cbtrack.specs.Leaves.{AllOf, AreTidy, with_pieces, unset_pieces, unwritten_pieces};
 
 use crate::about::{are_none, near_cells};
@@ -83,8 +84,29 @@ fn push_read(
     Ok(is_clear)
 }
 
+/// Adds what of an access is read and no step writes. Whether nothing of that is left unset.
+fn push_access(
+    found: &mut Vec<(Cells, AccessKind)>,
+    wants: &[(Cells, AccessKind)],
+    leaves: &[(Cells, AccessKind)],
+    access: (Cells, AccessKind),
+) -> Result<bool, NoMemory>
+    requires tidy { AreTidy wants.now leaves.now }
+    requires held { AllOf Read (put_all cell_sort same_kind found.old.items wants.now) }
+    ensures clear { IfOk result (λ b. IsTrue b → (kind_reads access.1 && is_full access.0) ≡ true → unset_pieces leaves.now access.0 ≡ []) }
+    ensures wants { IfOk result (λ b. IsTrue b → put_all cell_sort same_kind found.new.items wants.now
+        ≡ with_pieces (unwritten_pieces leaves.now) (access ∷ []) (put_all cell_sort same_kind found.old.items wants.now)) }
+    ensures held { IfOk result (λ b. IsTrue b → AllOf Read (put_all cell_sort same_kind found.new.items wants.now)) }
+{
+    if reads(access.1) && cell_lo(access.0) < cell_hi(access.0) {
+        return push_read(found, wants, leaves, access.0);
+    }
+    Ok(true)
+}
+
 /// What accesses read and no step before them writes, to be put among what is wanted, unless they read what is
-/// left unset.
+/// left unset. It is found from the first access on, so that where accesses are in order each is put behind the
+/// one before it.
 pub fn find_reads(
     alloc: Global,
     wants: &[(Cells, AccessKind)],
@@ -97,14 +119,9 @@ pub fn find_reads(
         ≡ with_pieces (unwritten_pieces leaves.now) accesses.now wants.now)) }
 {
     let mut found = Vec::new(alloc);
-    let mut i = accesses.len();
-    while i > 0 {
-        i -= 1;
-        let access = accesses[i];
-        if reads(access.1) && cell_lo(access.0) < cell_hi(access.0) {
-            if !push_read(&mut found, wants, leaves, access.0)? {
-                return Ok(None);
-            }
+    for access in accesses {
+        if !push_access(&mut found, wants, leaves, *access)? {
+            return Ok(None);
         }
     }
     Ok(Some(found))

@@ -14,14 +14,13 @@ ghost use Rattle.wg_cbtrack.specs.Seen.{AreStarts, AreEnds};
 use crate::draft::Track;
 use crate::kept::{Kept, Rows};
 use crate::near::{exchange_all, make_room};
-use crate::noting::{After, copy_of, step_after};
+use crate::noting::{After, step_after};
 use crate::placed::{find_placed, note_placed};
 use std::alloc::Global;
 use std::marker::Model;
 use wg_entry::NoMemory;
-use wg_trace::items::Items;
 use wg_trace::parts::{Cells, PartRun};
-use wg_trace::steps::{Deed, Deeds};
+use wg_trace::steps::Deed;
 use wg_trace::usages::Usages;
 
 /// What is found of the steps of a command buffer, outside any trace. It is seen as the list of what was
@@ -77,19 +76,6 @@ fn append_reserved(to: &mut Vec<Kept>, mut from: Vec<Kept>)
     ensures { to.new.items ≡ to.old.items ++ from.items }
 {
     let _ = to.append(&mut from);
-}
-
-/// What was noted of what is kept, copied.
-fn noted_of(alloc: Global, kept: &[Kept]) -> Result<Deeds, NoMemory>
-    ensures { IfOk result (λ deeds. deeds ≡ noted kept.now) }
-{
-    let mut deeds = Items::new(alloc);
-    for step in kept {
-        if step.is_noted {
-            deeds.push(copy_of(alloc, &step.deed)?)?;
-        }
-    }
-    Ok(deeds)
 }
 
 /// Notes a step, whatever it changes.
@@ -168,13 +154,6 @@ impl CbTrack {
             row_reads c (as_reads result.now) ≡ needs (placed_all place self.now) c }
     {
         self.rows.needs.as_slice()
-    }
-
-    /// What was noted, in order, copied.
-    pub fn noted(&self) -> Result<Deeds, NoMemory>
-        ensures { IfOk result (λ deeds. deeds ≡ self.now) }
-    {
-        noted_of(self.alloc, self.kept.as_slice())
     }
 
     /// Notes a step.

@@ -4,11 +4,9 @@ use Rattle.std.specs.List.{list_any, flat_map}
 use Rattle.std.proofs.lemmas.Bool.{and_parts, eqb-true}
 use Rattle.std.proofs.lemmas.List.Folds.{list_any-append}
 use Rattle.std.proofs.lemmas.Grind.{flat_map-append}
-use Rattle.std.proofs.lemmas.Simd.{map-map}
 use Rattle.indexmap.specs.IndexSet.{insert_all}
 use Rattle.wg_types.specs.Members.{SameMembers}
 use Rattle.wg_types.specs.Handles.{HandleValue}
-use Rattle.wg_types.specs.declared.handles.ObjRef.{ObjRef}
 use Rattle.wg_types.specs.declared.commands.On.{On}
 use Rattle.wg_types.specs.Commands.{Command, named}
 use Rattle.wg_types.specs.declared.wanted.Wanted.{Wanted}
@@ -17,8 +15,8 @@ use Rattle.wg_trace.specs.declared.steps.Sort.{Sort}
 use Rattle.wg_trace.specs.declared.steps.Sort.TheVariants.{Buffer, Texture, Queries}
 use Rattle.wg_trace.specs.contracts.steps.UsedPartialEq.TheImpl.{eq-value}
 use Rattle.wg_model.specs.Recorded.{names_within}
-use Rattle.wg_encoder.specs.Once.{with_one, each_once}
-use Rattle.wg_encoder.specs.Uses.{uses_in, uses_within, is_sort, same_used}
+use Rattle.wg_encoder.specs.Once.{with_one, each_once, values_of, AreOnce}
+use Rattle.wg_encoder.specs.Uses.{uses_in, uses_within, used_once, named_once, is_sort, same_used}
 use Rattle.wg_encoder.specs.declared.naming.Naming.{Naming}
 use Rattle.wg_encoder.specs.declared.naming.Named.{Named}
 use Rattle.wg_encoder.specs.Naming.{IsNamedBy, AreNamedOnce}
@@ -53,22 +51,45 @@ used_more old new xs ys e is = once_more same_used old new xs ys e (is ∙ ap (�
 more_within : {T : Type 0} (f : On × Command → List T) (commands : List (On × Command)) (kept : On × Command) → flat_map f (commands ++ kept ∷ []) ≡ flat_map f commands ++ f kept
 more_within f commands kept = flat_map-append f commands (kept ∷ []) ∙ ap (λ rest. flat_map f commands ++ rest) (append-nil (f kept))
 
-abbrev number_of : ObjRef → ℕ
-number_of object = object.number
-
 pub named_more : (commands : List (On × Command)) (on : On) (command : Command) (old new : Naming) (one : Named) → AreNamedOnce commands old → IsNamedBy command one
-    → new.uses.keys ≡ insert_all eq-value.it old.uses.keys one.uses.items → new.objects.keys ≡ insert_all nat_eq old.objects.keys (map number_of one.objects.items) → AreNamedOnce (commands ++ (on, command) ∷ []) new
+    → values_of new.uses ≡ insert_all eq-value.it (values_of old.uses) one.uses.items → values_of new.objects ≡ insert_all nat_eq (values_of old.objects) one.objects.items → AreNamedOnce (commands ++ (on, command) ∷ []) new
 named_more commands on command old new one are is uses objects = record {
   uses =
-      used_more old.uses.keys new.uses.keys (uses_within commands) one.uses.items are.uses uses
+      used_more (values_of old.uses) (values_of new.uses) (uses_within commands) one.uses.items are.uses uses
       ∙ ap (each_once same_used) (ap (λ more. uses_within commands ++ more) is.uses ∙ sym (more_within (λ (kept : On × Command). uses_in (named kept.1)) commands (on, command)));
   objects =
-      once_more nat_eq old.objects.keys new.objects.keys (names_within commands) (map number_of one.objects.items) are.objects objects
-      ∙ ap (each_once nat_eq) (ap (λ more. names_within commands ++ more) numbers ∙ sym (more_within (λ (kept : On × Command). map (λ (object : HandleValue × Wanted). object.0.reference.number) (named kept.1)) commands (on, command)));
+      once_more nat_eq (values_of old.objects) (values_of new.objects) (names_within commands) one.objects.items are.objects objects
+      ∙ ap (each_once nat_eq) (ap (λ more. names_within commands ++ more) is.objects ∙ sym (more_within (λ (kept : On × Command). map (λ (object : HandleValue × Wanted). object.0.reference.number) (named kept.1)) commands (on, command)));
 }
+
+-- What is put once each into a list of which nothing is there twice leaves nothing twice.
+once_stays : {A : Type 0} (same : A → A → Bool) (xs : List A) (x : A) → AreOnce same xs → AreOnce same (with_one same xs x)
+once_stays {A} same xs x once = by_any (list_any (same x) xs) refl
   where
-    numbers : map number_of one.objects.items ≡ map (λ (object : HandleValue × Wanted). object.0.reference.number) (named command)
-    numbers = ap (map number_of) is.objects ∙ map-map number_of (λ (object : HandleValue × Wanted). object.0.reference) (named command)
+    by_any : (b : Bool) → list_any (same x) xs ≡ b → AreOnce same (if b then xs else xs ++ x ∷ [])
+    by_any true e = once
+    by_any false e = fold_after (with_one same) [] xs (x ∷ []) ∙ (ap (λ zs. with_one same zs x) once ∙ ap (λ (b : Bool). if b then xs else xs ++ x ∷ []) e)
+
+all_once : {A : Type 0} (same : A → A → Bool) (start xs : List A) → AreOnce same start → AreOnce same (fold (with_one same) start xs)
+all_once same start [] once = once
+all_once same start (x ∷ xs) once = all_once same (with_one same start x) xs (once_stays same start x once)
+
+-- The resources that commands use, each once, and the objects that they name.
+pub uses_once : (commands : List (On × Command)) (uses : List Used) → uses ≡ used_once commands → AreOnce eq-value.it uses
+uses_once commands uses e =
+    let same : AreOnce same_used (used_once commands) = all_once same_used [] (uses_within commands) refl in
+    subst (λ (test : Used → Used → Bool). AreOnce test uses) (λ i x y. sym (used_is x y) i) (subst (AreOnce same_used) (sym e) same)
+
+pub objects_once : (commands : List (On × Command)) (objects : List ℕ) → objects ≡ named_once commands → AreOnce nat_eq objects
+objects_once commands objects e = subst (AreOnce nat_eq) (sym e) (all_once nat_eq [] (names_within commands) refl)
+
+-- What is kept of commands is kept where the same values are, since nothing is there twice.
+pub kept_once : (old new : Naming) → (AreOnce eq-value.it (values_of old.uses) → values_of new.uses ≡ values_of old.uses) → (AreOnce nat_eq (values_of old.objects) → values_of new.objects ≡ values_of old.objects)
+    → (commands : List (On × Command)) → AreNamedOnce commands old → AreNamedOnce commands new
+kept_once old new uses objects commands are = record {
+  uses = uses (uses_once commands (values_of old.uses) are.uses) ∙ are.uses;
+  objects = objects (objects_once commands (values_of old.objects) are.objects) ∙ are.objects;
+}
 
 -- Each once, they are the same members.
 

@@ -1,8 +1,10 @@
 //! What a recorder keeps.
-ghost use Rattle.std.specs.Prelude.{◌≡◌, ◌∷◌, ◌<◌, ◌++◌, [], ℕ, true, false, is_some, vec_len, vec_capacity, reverse, IfOk, OnOk, OnErr};
+ghost use Rattle.std.specs.Prelude.{◌≡◌, ◌∷◌, ◌<◌, ◌++◌, [], ℕ, List, true, false, is_some, vec_len, vec_capacity, reverse, IfOk, OnOk, OnErr};
+ghost use Rattle.wg_types.specs.declared.commands.On.{On as OnOf};
+ghost use Rattle.wg_types.specs.Commands.{Command as CommandOf};
 ghost use Rattle.wg_encoder.specs.Walked.{IsKnownOf};
 ghost use Rattle.wg_encoder.specs.Kept.{commands_of, IsKeptOf, IsNaming};
-ghost use Rattle.wg_encoder.specs.Naming.{AreNamedOnce, IsNamedBy, HasRoomFor, AreSameNames};
+ghost use Rattle.wg_encoder.specs.Naming.{AreNamedOnce, IsNamedBy, HasRoomFor};
 
 use crate::known::Known;
 use crate::naming::Naming;
@@ -45,7 +47,7 @@ impl Kept {
     ) -> Result<(), NoMemory>
         requires { IsKnownOf device targets.now (reverse self.old.commands.items) self.old.known }
         ensures same { self.new.commands.items ≡ self.old.commands.items }
-        ensures same_names { AreSameNames self.old.naming self.new.naming }
+        ensures same_names { (commands : List (OnOf × CommandOf)) → AreNamedOnce commands self.old.naming → AreNamedOnce commands self.new.naming }
         ensures named { OnOk result (IsNamedBy command.now self.new.naming.last) }
         ensures names_room { OnOk result (HasRoomFor self.new.naming self.new.naming.last) }
         ensures room { OnOk result (vec_len self.new.commands < vec_capacity self.new.commands) }
@@ -53,7 +55,7 @@ impl Kept {
         ensures err { OnErr result (self.new.known ≡ self.old.known) }
     {
         self.commands.reserve(1)?;
-        self.naming.prepare(command)?;
+        self.naming.prepare(alloc, command)?;
         self.known.note(
             alloc,
             device,

@@ -38,6 +38,33 @@ pub fn push_references(found: &mut Vec<ObjRef>, command: &Command) -> Result<(),
     command.gather(&References, found)
 }
 
+/// The number of each object.
+#[derive(Drop)]
+struct Numbers;
+
+impl Gather<Handle, u64> for Numbers {
+    ghost gathers = { λ _ object. object.0.reference.number ∷ [] };
+
+    #[tactic(auto, using(wg_trace::proofs::Beginnings::begins_one, wg_trace::proofs::Beginnings::begins_same))]
+    fn gather(
+        &self,
+        found: &mut Vec<u64>,
+        object: &Handle,
+        _wanted: Wanted,
+    ) -> Result<(), NoMemory> {
+        found.push(object.reference().number)?;
+        Ok(())
+    }
+}
+
+/// Adds the numbers of the objects that a command names to a list.
+#[tactic(auto, using(std::proofs::lemmas::List::Concat::flat_map_single))]
+pub fn push_numbers(found: &mut Vec<u64>, command: &Command) -> Result<(), NoMemory>
+    ensures { OnOk result (found.new.items ≡ found.old.items ++ map (λ object. object.0.reference.number) (named command.now)) }
+{
+    command.gather(&Numbers, found)
+}
+
 /// The objects that commands name, as they come.
 pub fn references_within(
     alloc: Global,

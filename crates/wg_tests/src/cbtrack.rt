@@ -66,26 +66,14 @@ fn is_told(track: &CbTrack) -> [bool; 3] {
     ]
 }
 
-/// How many steps are kept.
-fn kept(track: &CbTrack) -> Result<usize, NoMemory> {
-    let deeds = track.noted()?;
-    Ok(deeds.as_slice().len())
-}
-
-type Told = (
-    [Result<(), NoMemory>; 2],
-    [bool; 3],
-    Result<usize, NoMemory>,
-);
-
-/// Whether both were noted, what is told of them, and how many are kept, of what is dropped here.
-fn of_track(alloc: Global) -> Told {
+/// Whether both were noted, and what is told of them, of what is dropped here.
+fn of_track(alloc: Global) -> ([Result<(), NoMemory>; 2], [bool; 3]) {
     let mut track = CbTrack::new(alloc);
     let noted = note_both(&mut track, alloc);
-    (noted, is_told(&track), kept(&track))
+    (noted, is_told(&track))
 }
 
 #[test]
 fn a_command_buffer_needs_what_it_reads_first(rt: HostRuntime) {
-    assert!(rt; of_track(rt.alloc()) == ([Ok(()); 2], [true; 3], Ok(2)));
+    assert!(rt; of_track(rt.alloc()) == ([Ok(()); 2], [true; 3]));
 }
