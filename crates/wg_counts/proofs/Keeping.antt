@@ -1,9 +1,9 @@
 -- An object is held exactly where its count is not 0.
 use Rattle.std.proofs.Common.{◌≡◌, ◌≢◌, ℕ, zero, suc, ◌+◌, ◌-◌, ◌<◌, ◌≤◌, Bool, true, false, not, ◌&&◌, ◌||◌, nat_lt, List, [], ◌∷◌, ◌++◌, length, length-set, set, get_or, drop, inl, inr, refl, sym, ap, ap₂, ◌∙◌, arith, if◌then◌else◌, true≢false}
-use Rattle.std.proofs.lemmas.Bool.{cases_eq, cases_lt, eq-eqb, lt-ltb, le-ltb, ltb-true, false_from_ne_true}
+use Rattle.std.proofs.lemmas.Bool.{cases_eq, cases_lt, eq-eqb, lt-ltb, ltb-true, false_from_ne_true}
 use Rattle.std.proofs.lemmas.List.{get_or-set_same, get_or-set_other, get_or_append_left, get_or_push, get_or_past, get_or_read, drop_more, length_push}
 use Rattle.wg_model.specs.Holding.{Node, nobody, is_among, is_held_among}
-use Rattle.wg_counts.specs.Counts.{own_at, refers_in, node_at, counted_below, is_counted, Owns, times}
+use Rattle.wg_counts.specs.Counts.{own_at, refers_in, node_at, counted_below, is_counted, times}
 use Rattle.wg_counts.specs.Kept.{count_at, is_alive, sum_alive, references, living, AreHolders, GoBack, AreWithin, IsKept, HaveFallen}
 use Rattle.wg_model.proofs.Holding.{held_inside, among_cases, among_own, among_other}
 use Rattle.wg_counts.proofs.Sums.{sum_same, sum_weights, sum_some, alive_set, times_here, times_at, times_other, times_le, among_times, times_among}
@@ -100,18 +100,6 @@ counts_held own refers counts n kept = elim (cases_lt n (length counts)) [
 -- where the same are alive, the same are held
 pub held_same : (own : List ℕ) (refers : List (List ℕ)) (counts next : List ℕ) (lists : List (List ℕ)) (after : List ℕ) (n : ℕ) → IsKept own refers counts → IsKept next lists after → is_alive after n ≡ is_alive counts n → is_counted next lists n ≡ is_counted own refers n
 held_same own refers counts next lists after n kept later same = sym (counts_held next lists after n later) ∙ (same ∙ counts_held own refers counts n kept)
-
-pub owns_set : (note : ℕ → ℕ → ℕ) (own : List ℕ) (k c : ℕ) → k < length own → c ≡ note k (own_at own k) → ((n : ℕ) → n ≢ k → note n (own_at own n) ≡ own_at own n) → Owns note own (set own k c)
-owns_set note own k c lt is others = record {
-  len = length-set own k c;
-  each = λ n. elim (cases_eq n k) [
-    | inl same ↦ rw same (get_or-set_same own k c 0 lt ∙ (is ∙ sym (ap (λ b. if b then note k (own_at own k) else 0) (lt-ltb k (length own) lt))))
-    | inr other ↦ get_or-set_other own k n c 0 other ∙ elim (cases_lt n (length own)) [
-      | inl less ↦ sym (ap (λ b. if b then note n (own_at own n) else 0) (lt-ltb n (length own) less) ∙ others n other)
-      | inr past ↦ get_or_past own n 0 past ∙ sym (ap (λ b. if b then note n (own_at own n) else 0) (le-ltb n (length own) past))
-    ]
-  ];
-}
 
 pub same_count : (counts : List ℕ) (k c : ℕ) → k < length counts → c ≡ get_or counts k c → c ≡ count_at counts k
 same_count counts k c lt e = get_or_read counts k c lt e 0
@@ -340,9 +328,6 @@ kept_lowered own refers counts fallen k o next_own next after kept is holders fa
   owns = ap length is ∙ (length-set own k o ∙ (kept.owns ∙ sym falls.len));
   lists = kept.lists ∙ sym falls.len;
 }
-
-pub within_lowered : (taken : ℕ) (counts fallen next after : List ℕ) → HaveFallen counts fallen next after → AreWithin taken counts → AreWithin taken next
-within_lowered taken counts fallen next after falls within = record { each = λ n. let was = within.each n in let now = falls.below n in omega (arith, was, now) }
 
 -- nothing that was not alive is alive
 alive_before : (counts fallen next after : List ℕ) → HaveFallen counts fallen next after → (n : ℕ) → is_alive next n ≡ true → is_alive counts n ≡ true

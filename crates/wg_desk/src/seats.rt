@@ -88,7 +88,7 @@ impl Seats {
         ensures items { self.new.items ≡ self.old.items }
         ensures room { OnOk result (0 < self.new.spare) }
     {
-        self.list.reserve()
+        self.list.reserve(1)
     }
 
     /// The handle at a number.

@@ -38,6 +38,13 @@ at_same {X} {V} none read xs i k x after j lt is same = elim (cases_eq k i) [
   | inr other ↦ at_beside none read xs i k after j other
 ]
 
+-- one has at j what it had, in place of itself
+pub at_keeps : {X : Type 0} (has : X → ℕ → Bool) (xs : List X) (i k : ℕ) (x after : X) (j : ℕ) → i < length xs → x ≡ get_or xs i x → (k ≡ i → has x j ≡ true → has after j ≡ true) → at_in false has xs k j ≡ true → at_in false has (set xs i after) k j ≡ true
+at_keeps has xs i k x after j lt is keeps had = elim (cases_eq k i) [
+  | inl here ↦ ap (λ (m : ℕ). at_in false has (set xs i after) m j) here ∙ (at_set false has xs i after j lt ∙ keeps here (sym (at_read false has xs i x j lt is) ∙ (ap (λ (m : ℕ). at_in false has xs m j) (sym here) ∙ had)))
+  | inr other ↦ at_beside false has xs i k after j other ∙ had
+]
+
 -- with one more of which nothing is read
 pub at_more : {X V : Type 0} (none : V) (read : X → ℕ → V) (xs : List X) (k : ℕ) (x : X) (j : ℕ) → read x j ≡ none → at_in none read (xs ++ x ∷ []) k j ≡ at_in none read xs k j
 at_more none read [] zero x j e = e

@@ -1,5 +1,5 @@
 -- Where what is kept stands, by number.
-use Rattle.std.specs.Prelude.{◌≡◌, ℕ, zero, suc, ◌+◌, ◌-◌, ◌/◌, ◌%◌, ◌≤◌, Bool, true, false, nat_lt, List, [], ◌∷◌, length, slice_index_or, Option, Some, None, if◌then◌else◌}
+use Rattle.std.specs.Prelude.{◌≡◌, ℕ, zero, suc, ◌+◌, ◌-◌, ◌/◌, ◌%◌, ◌<◌, ◌≤◌, Bool, true, false, nat_lt, List, [], ◌∷◌, length, slice_index_or, Option, Some, None, if◌then◌else◌}
 use Rattle.std.specs.Global.{Global}
 use Rattle.std.specs.declared.boxed.Box.{Box}
 use Rattle.wg_fading.specs.declared.pages.Page.{Page}
@@ -60,6 +60,10 @@ place_at p n = spot p.first p.floors.items n
 pub record HasSlot (p : Places) (n : ℕ) : Type 0 where
   pub past : p.first ≤ n / 2048
   pub slot : at_in false floor_has p.floors.items (n / 2048 - p.first) (n % 2048) ≡ true
+
+-- There are slots for a run of numbers.
+abbrev pub HasSlots : Places → ℕ → ℕ → Type 0
+HasSlots p from to = (n : ℕ) → from ≤ n → n < to → HasSlot p n
 
 -- Number n, which is the next one, is of one of the floors or of the next floor.
 pub record Reaches (p : Places) (n : ℕ) : Type 0 where

@@ -1,5 +1,5 @@
 //! Where the numbers of a floor stand, which has pages, in memory that is there as long as one of them is kept.
-ghost use Rattle.std.specs.Prelude.{◌≡◌, ℕ, ◌/◌, ◌<◌, false, true, length, slice_index_or, OnOk, is_some};
+ghost use Rattle.std.specs.Prelude.{◌≡◌, ℕ, ◌/◌, ◌<◌, ◌≤◌, false, true, length, slice_index_or, OnOk, is_some};
 ghost use Rattle.wg_fading.specs.Places.{in_floor, has_in_floor, floor_place, floor_has};
 
 use super::pages;
@@ -8,7 +8,7 @@ use std::alloc::Global;
 use wg_entry::NoMemory;
 
 /// So many pages are of a floor.
-const PAGES: usize = 32;
+pub const PAGES: usize = 32;
 
 /// Where each of a run of numbers stands, by the page. A page that was given back is none.
 #[derive(Drop)]
@@ -79,23 +79,25 @@ fn put_in(floor: &mut Floor, slot: usize, place: u32)
     pages::put(&mut floor.pages[slot / PAGE], slot % PAGE, place);
 }
 
-/// Makes a slot for one, with its page and its floor.
-pub fn fill(floor: &mut Option<Box<Floor>>, alloc: Global, slot: usize) -> Result<(), NoMemory>
+/// Makes the slots of a page, with that and its floor.
+pub fn fill(floor: &mut Option<Box<Floor>>, alloc: Global, page: usize) -> Result<(), NoMemory>
     ensures each { (j : ℕ) → floor_place floor.new j ≡ floor_place floor.old j }
-    ensures has { OnOk result (floor_has floor.new slot ≡ true) }
+    ensures kept { (j : ℕ) → floor_has floor.old j ≡ true → floor_has floor.new j ≡ true }
+    ensures whole { OnOk result ((j : ℕ) → j / 64 ≡ page → floor_has floor.new j ≡ true) }
 {
     make(floor, alloc)?;
     let Some(floor) = floor else {
         unreachable!();
     };
-    reach(floor, slot / PAGE)?;
-    fill_in(floor, alloc, slot)?;
+    reach(floor, page)?;
+    fill_in(floor, alloc, page)?;
     Ok(())
 }
 
 /// Makes a floor where there is none.
 fn make(floor: &mut Option<Box<Floor>>, alloc: Global) -> Result<(), NoMemory>
     ensures each { (j : ℕ) → floor_place floor.new j ≡ floor_place floor.old j }
+    ensures has { (j : ℕ) → floor_has floor.new j ≡ floor_has floor.old j }
     ensures some { OnOk result (is_some floor.new ≡ true) }
 {
     if floor.is_some() {
@@ -111,6 +113,7 @@ fn make(floor: &mut Option<Box<Floor>>, alloc: Global) -> Result<(), NoMemory>
 /// Adds pages that are none up to one.
 fn reach(floor: &mut Floor, page: usize) -> Result<(), NoMemory>
     ensures each { (j : ℕ) → in_floor floor.new j ≡ in_floor floor.old j }
+    ensures has { (j : ℕ) → has_in_floor floor.new j ≡ has_in_floor floor.old j }
     ensures to { OnOk result (page < length floor.new.pages.items) }
 {
     while floor.pages.len() <= page {
@@ -120,40 +123,41 @@ fn reach(floor: &mut Floor, page: usize) -> Result<(), NoMemory>
     Ok(())
 }
 
-/// Makes the page of a slot.
-fn fill_in(floor: &mut Floor, alloc: Global, slot: usize) -> Result<(), NoMemory>
-    requires { slot / 64 < length floor.old.pages.items }
+/// Makes the slots of a page, with that, in a floor that reaches to it.
+fn fill_in(floor: &mut Floor, alloc: Global, page: usize) -> Result<(), NoMemory>
+    requires { page < length floor.old.pages.items }
     ensures each { (j : ℕ) → in_floor floor.new j ≡ in_floor floor.old j }
-    ensures has { OnOk result (has_in_floor floor.new slot ≡ true) }
+    ensures kept { (j : ℕ) → has_in_floor floor.old j ≡ true → has_in_floor floor.new j ≡ true }
+    ensures whole { OnOk result ((j : ℕ) → j / 64 ≡ page → has_in_floor floor.new j ≡ true) }
 {
-    pages::fill(&mut floor.pages[slot / PAGE], alloc)?;
+    pages::fill(&mut floor.pages[page], alloc)?;
     Ok(())
 }
 
 /// Notes that one of a floor was let go. Gives its page back if that is past and nothing of it is kept, and the
-/// floor if it is past and nothing of it is kept. In a floor that is not past, the next number is at a slot.
-pub fn lose(floor: &mut Option<Box<Floor>>, slot: usize, next: usize, is_past: bool)
+/// floor if it is past and nothing of it is kept. The slots from the next on stay.
+pub fn lose(floor: &mut Option<Box<Floor>>, slot: usize, next: usize)
     requires { floor_has floor.old slot ≡ true }
     ensures each { (j : ℕ) → floor_place floor.new j ≡ floor_place floor.old j }
-    ensures has { is_past ≡ false → floor_has floor.new next ≡ floor_has floor.old next }
+    ensures has { (j : ℕ) → next ≤ j → j < 2048 → floor_has floor.new j ≡ floor_has floor.old j }
 {
-    if is_over(floor, slot, next, is_past) && is_past {
+    if is_over(floor, slot, next) && next >= PAGES * PAGE {
         *floor = None;
     }
 }
 
 /// Notes that one of a floor was let go. Whether nothing of it is kept.
 #[tactic(auto, using(crate::proofs::Reading::at_free))]
-fn is_over(floor: &mut Option<Box<Floor>>, slot: usize, next: usize, is_past: bool) -> bool
+fn is_over(floor: &mut Option<Box<Floor>>, slot: usize, next: usize) -> bool
     requires { floor_has floor.old slot ≡ true }
     ensures each { (j : ℕ) → floor_place floor.new j ≡ floor_place floor.old j }
-    ensures has { is_past ≡ false → floor_has floor.new next ≡ floor_has floor.old next }
+    ensures has { (j : ℕ) → next ≤ j → floor_has floor.new j ≡ floor_has floor.old j }
     ensures over { result ≡ true → (j : ℕ) → floor_place floor.new j ≡ 4294967295 }
 {
     let Some(floor) = floor else {
         unreachable!();
     };
-    lose_in(floor, slot, next, is_past) && is_free(floor)
+    lose_in(floor, slot, next) && is_free(floor)
 }
 
 /// Whether a floor has no pages.
@@ -165,18 +169,18 @@ fn is_free(floor: &Floor) -> bool
 
 /// Notes that one of a page was let go, and gives the page back if it is past and nothing of it is kept. Whether
 /// there is no page then.
-fn lose_in(floor: &mut Floor, slot: usize, next: usize, is_past: bool) -> bool
+fn lose_in(floor: &mut Floor, slot: usize, next: usize) -> bool
     requires { has_in_floor floor.old slot ≡ true }
     ensures each { (j : ℕ) → in_floor floor.new j ≡ in_floor floor.old j }
-    ensures has { is_past ≡ false → has_in_floor floor.new next ≡ has_in_floor floor.old next }
+    ensures has { (j : ℕ) → next ≤ j → has_in_floor floor.new j ≡ has_in_floor floor.old j }
 {
-    let is_past = is_page_past(slot, next, is_past);
+    let is_past = is_page_past(slot, next);
     pages::lose(&mut floor.pages[slot / PAGE], is_past)
 }
 
 /// Whether the page of a slot is past.
-fn is_page_past(slot: usize, next: usize, is_past: bool) -> bool
-    ensures { is_past ≡ false → next / 64 ≡ slot / 64 → result ≡ false }
+fn is_page_past(slot: usize, next: usize) -> bool
+    ensures { next / 64 ≤ slot / 64 → result ≡ false }
 {
-    is_past || next / PAGE != slot / PAGE
+    slot / PAGE < next / PAGE
 }

@@ -69,6 +69,7 @@ fn put_in(page: &mut Page, slot: usize, place: u32)
 /// Makes a page that has slots for all its numbers.
 pub fn fill(page: &mut Option<Box<Page>>, alloc: Global) -> Result<(), NoMemory>
     ensures each { (j : ℕ) → page_place page.new j ≡ page_place page.old j }
+    ensures kept { (j : ℕ) → page_has page.old j ≡ true → page_has page.new j ≡ true }
     ensures whole { OnOk result ((j : ℕ) → j < 64 → page_has page.new j ≡ true) }
 {
     make(page, alloc)?;
@@ -81,6 +82,7 @@ pub fn fill(page: &mut Option<Box<Page>>, alloc: Global) -> Result<(), NoMemory>
 /// Makes a page where there is none.
 fn make(page: &mut Option<Box<Page>>, alloc: Global) -> Result<(), NoMemory>
     ensures each { (j : ℕ) → page_place page.new j ≡ page_place page.old j }
+    ensures has { (j : ℕ) → page_has page.new j ≡ page_has page.old j }
     ensures some { OnOk result (is_some page.new ≡ true) }
 {
     if page.is_some() {
@@ -97,6 +99,7 @@ fn make(page: &mut Option<Box<Page>>, alloc: Global) -> Result<(), NoMemory>
 /// Gives a page its slots, if it has fewer.
 fn fill_in(page: &mut Page) -> Result<(), NoMemory>
     ensures each { (j : ℕ) → in_page page.new j ≡ in_page page.old j }
+    ensures kept { (j : ℕ) → has_in_page page.old j ≡ true → has_in_page page.new j ≡ true }
     ensures whole { OnOk result ((j : ℕ) → j < 64 → has_in_page page.new j ≡ true) }
 {
     if page.places.len() < PAGE {

@@ -1,13 +1,13 @@
 //! Where what is kept stands, by number, in floors of pages that are given back once nothing of them is kept.
-ghost use Rattle.std.specs.Prelude.{◌≡◌, ℕ, ◌+◌, ◌-◌, ◌/◌, ◌<◌, ◌≤◌, ◌==◌, [], if◌then◌else◌, false, true, length, slice_index_or, OnOk, Option};
+ghost use Rattle.std.specs.Prelude.{◌≡◌, ℕ, ◌+◌, ◌-◌, ◌*◌, ◌/◌, ◌<◌, ◌≤◌, ◌==◌, [], if◌then◌else◌, true, length, slice_index_or, OnOk, Option};
 ghost use Rattle.std.specs.Global.{Global};
 ghost use Rattle.std.specs.declared.boxed.Box.{Box};
 ghost use Rattle.wg_fading.specs.declared.floors.Floor.{Floor};
-ghost use Rattle.wg_fading.specs.Places.{place_at, HasSlot, Reaches};
+ghost use Rattle.wg_fading.specs.Places.{place_at, HasSlot, HasSlots, Reaches};
 
 use super::floors;
-use super::floors::Floor;
-use super::pages::GONE;
+use super::floors::{Floor, PAGES};
+use super::pages::{GONE, PAGE};
 use std::alloc::Global;
 use std::collections::VecDeque;
 use wg_entry::NoMemory;
@@ -21,13 +21,6 @@ pub struct Places {
     /// How many floors were cut off.
     pub first: u64,
     pub floors: VecDeque<Option<Box<Floor>>>,
-}
-
-/// Whether the floor of a number is past.
-fn is_floor_past(number: u64, next: u64) -> bool
-    ensures { number / 2048 ≡ next / 2048 → result ≡ false }
-{
-    number / FLOOR != next / FLOOR
 }
 
 impl Places {
@@ -78,18 +71,38 @@ impl Places {
         floors::put(&mut self.floors[floor], (number % FLOOR) as usize, place);
     }
 
-    /// Takes room for a number that is the next one.
-    pub fn reserve(&mut self, alloc: Global, next: u64) -> Result<(), NoMemory>
+    /// Takes room for a run of numbers, from the next one on.
+    pub fn reserve(&mut self, alloc: Global, next: u64, to: u64) -> Result<(), NoMemory>
         requires { Reaches self.old next }
         ensures each { (m : ℕ) → place_at self.new m ≡ place_at self.old m }
         ensures reach { Reaches self.new next }
-        ensures slot { OnOk result (HasSlot self.new next) }
+        ensures kept { (n : ℕ) → HasSlot self.old n → HasSlot self.new n }
+        ensures slots { OnOk result (HasSlots self.new next to) }
     {
-        let floor = (next / FLOOR - self.first) as usize;
+        let end = to.div_ceil(PAGE as u64);
+        let mut page = next / PAGE as u64;
+        while page < end {
+            self.fill(alloc, page)?;
+            page += 1;
+        }
+        Ok(())
+    }
+
+    /// Makes the slots of a page that is of one of the floors or of the next floor.
+    fn fill(&mut self, alloc: Global, page: u64) -> Result<(), NoMemory>
+        requires { Reaches self.old (page * 64) }
+        ensures each { (m : ℕ) → place_at self.new m ≡ place_at self.old m }
+        ensures first { self.new.first ≡ self.old.first }
+        ensures len { length self.old.floors.items ≤ length self.new.floors.items }
+        ensures kept { (n : ℕ) → HasSlot self.old n → HasSlot self.new n }
+        ensures slots { OnOk result ((n : ℕ) → n / 64 ≡ page → HasSlot self.new n) }
+        ensures reach { OnOk result (Reaches self.new (page * 64 + 64)) }
+    {
+        let floor = (page / PAGES as u64 - self.first) as usize;
         if floor == self.floors.len() {
             self.add_floor()?;
         }
-        self.fill(floor, alloc, next)?;
+        self.fill_in(floor, alloc, page)?;
         Ok(())
     }
 
@@ -98,6 +111,7 @@ impl Places {
         ensures each { (m : ℕ) → place_at self.new m ≡ place_at self.old m }
         ensures first { self.new.first ≡ self.old.first }
         ensures len { length self.old.floors.items ≤ length self.new.floors.items }
+        ensures kept { (n : ℕ) → HasSlot self.old n → HasSlot self.new n }
         ensures more { OnOk result (length self.new.floors.items ≡ length self.old.floors.items + 1) }
     {
         self.floors.reserve(1)?;
@@ -105,25 +119,27 @@ impl Places {
         Ok(())
     }
 
-    /// Makes the slot of a number in its floor.
-    fn fill(&mut self, floor: usize, alloc: Global, number: u64) -> Result<(), NoMemory>
-        requires past { self.old.first ≤ number / 2048 }
-        requires is { floor ≡ number / 2048 - self.old.first }
+    /// Makes the slots of a page in its floor.
+    fn fill_in(&mut self, floor: usize, alloc: Global, page: u64) -> Result<(), NoMemory>
+        requires past { self.old.first ≤ page / 32 }
+        requires is { floor ≡ page / 32 - self.old.first }
         requires inside { floor < length self.old.floors.items }
         ensures each { (m : ℕ) → place_at self.new m ≡ place_at self.old m }
         ensures first { self.new.first ≡ self.old.first }
         ensures len { length self.new.floors.items ≡ length self.old.floors.items }
-        ensures slot { OnOk result (HasSlot self.new number) }
+        ensures kept { (n : ℕ) → HasSlot self.old n → HasSlot self.new n }
+        ensures slots { OnOk result ((n : ℕ) → n / 64 ≡ page → HasSlot self.new n) }
     {
-        floors::fill(&mut self.floors[floor], alloc, (number % FLOOR) as usize)?;
+        let page = (page % PAGES as u64) as usize;
+        floors::fill(&mut self.floors[floor], alloc, page)?;
         Ok(())
     }
 
-    /// Lets a number go. The page of the next number stays.
+    /// Lets a number go. The slots from the next number on stay.
     pub fn lose(&mut self, number: u64, next: u64)
         requires { HasSlot self.old number }
         ensures each { (m : ℕ) → place_at self.new m ≡ (if m == number then 4294967295 else place_at self.old m) }
-        ensures slot { HasSlot self.old next → HasSlot self.new next }
+        ensures slots { (n : ℕ) → next ≤ n → HasSlot self.old n → HasSlot self.new n }
         ensures reach { Reaches self.old next → Reaches self.new next }
     {
         self.put(number, GONE);
@@ -136,23 +152,20 @@ impl Places {
     fn lose_in(&mut self, number: u64, next: u64)
         requires { HasSlot self.old number }
         ensures each { (m : ℕ) → place_at self.new m ≡ place_at self.old m }
-        ensures slot { HasSlot self.old next → HasSlot self.new next }
+        ensures slots { (n : ℕ) → next ≤ n → HasSlot self.old n → HasSlot self.new n }
         ensures first { self.new.first ≡ self.old.first }
         ensures len { length self.new.floors.items ≡ length self.old.floors.items }
     {
+        let slot = number % FLOOR;
         let floor = (number / FLOOR - self.first) as usize;
-        floors::lose(
-            &mut self.floors[floor],
-            (number % FLOOR) as usize,
-            (next % FLOOR) as usize,
-            is_floor_past(number, next),
-        );
+        let next = next.saturating_sub(number - slot) as usize;
+        floors::lose(&mut self.floors[floor], slot as usize, next);
     }
 
     /// Cuts off the floor in front, if it was given back and is not that of the next number.
     fn cut(&mut self, next: u64)
         ensures each { (m : ℕ) → place_at self.new m ≡ place_at self.old m }
-        ensures slot { HasSlot self.old next → HasSlot self.new next }
+        ensures slots { (n : ℕ) → next ≤ n → HasSlot self.old n → HasSlot self.new n }
         ensures reach { Reaches self.old next → Reaches self.new next }
     {
         if self.first < next / FLOOR && self.is_free() {

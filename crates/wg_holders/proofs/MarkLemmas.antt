@@ -3,7 +3,7 @@ use Rattle.std.proofs.Common.{◌≡◌, ℕ, ◌<◌, Bool, true, false, not, �
 use Rattle.std.proofs.lemmas.Bool.{cases_eq, cases_lt}
 use Rattle.std.proofs.lemmas.List.{get_or_past, get_or_append_left, get_or_push, length_push}
 use Rattle.wg_holders.specs.declared.marks.Mark.{Mark}
-use Rattle.wg_holders.specs.Holders.{no_mark, new_mark, mark_at, is_open, is_unspent, with_ended, with_consumed, with_dropped}
+use Rattle.wg_holders.specs.Holders.{no_mark, new_mark, mark_at, is_open, is_unspent, with_ended, with_dropped}
 use Rattle.wg_holders.specs.Tokens.{Notes, is_open_at}
 
 -- what a note leaves is the same at every number
@@ -43,10 +43,6 @@ dropped_opens k true mark is = by_parts mark.encoder mark.ended is
     by_parts true true e = absurd (true≢false (sym e))
     by_parts true false e = absurd (true≢false (sym e))
     by_parts false b e = absurd (true≢false (sym e))
-
--- a consumed or dropped command buffer is spent
-pub consumed_spent : (mark : Mark) → is_unspent (with_consumed true mark) ≡ false
-consumed_spent mark = refl
 
 pub dropped_spent : (k : ℕ) (mark : Mark) → is_unspent (with_dropped k true mark) ≡ false
 dropped_spent k mark = by_consumed mark.consumed

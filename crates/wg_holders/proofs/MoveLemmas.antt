@@ -1,5 +1,5 @@
 -- Counts as holds are added and ended.
-use Rattle.std.proofs.Common.{◌≡◌, ℕ, ◌+◌, ◌-◌, ◌<◌, ◌≤◌, Bool, true, false, not, ◌&&◌, ◌||◌, ◌==◌, List, [], length, inl, inr, refl, sym, ap, ◌∙◌, arith, true≢false, if◌then◌else◌}
+use Rattle.std.proofs.Common.{◌≡◌, ℕ, ◌+◌, ◌-◌, ◌<◌, ◌≤◌, Bool, true, false, not, ◌&&◌, ◌||◌, ◌==◌, List, length, inl, inr, refl, sym, ap, ◌∙◌, arith, true≢false, if◌then◌else◌}
 use Rattle.std.proofs.lemmas.Bool.{cases_eq, cases_lt, eq-eqb, ne_eqb, lt-ltb, le-ltb}
 use Rattle.std.proofs.lemmas.List.{get_or_past}
 use Rattle.wg_model.specs.Holding.{is_among}
@@ -62,22 +62,6 @@ hold_own k n old new inside owns = elim (cases_lt n (length old)) [
 
 -- what falls
 
-pub Falls_none : (counts : CountsValue) → Falls counts counts
-Falls_none counts = record {
-  listed = λ n. by_held (is_among counts.fallen n) (is_held counts n);
-  once = λ n. none_more (times n counts.fallen) (is_held counts n);
-  falls = λ n is. is;
-}
-  where
-    by_held : (a h : Bool) → a ≡ (a || (h && not h))
-    by_held true h = refl
-    by_held false true = refl
-    by_held false false = refl
-
-    none_more : (k : ℕ) (h : Bool) → k ≡ k + (if h && not h then 1 else 0)
-    none_more k true = omega arith
-    none_more k false = omega arith
-
 pub Falls_then : (a b c : CountsValue) → Falls a b → Falls b c → Falls a c
 Falls_then a b c first second = record {
   listed = λ n. second.listed n ∙ (ap (λ x. x || (is_held b n && not (is_held c n))) (first.listed n) ∙ by_held (is_among a.fallen n) (is_held a n) (is_held b n) (is_held c n) (first.falls n) (second.falls n));
@@ -104,19 +88,6 @@ Falls_then a b c first second = record {
 
 -- holds that end
 
-pub Moves_none : (part : ℕ → ℕ) (counts : CountsValue) → Moves part part counts counts
-Moves_none part counts = record { len = refl; own = λ n. refl; refers = refl; falls = Falls_none counts; spare = refl; room = refl }
-
-pub Moves_as : (from to to' : ℕ → ℕ) (old new : CountsValue) → ((n : ℕ) → to n ≡ to' n) → Moves from to old new → Moves from to' old new
-Moves_as from to to' old new same moves = record {
-  len = moves.len;
-  own = λ n. moves.own n ∙ ap (λ x. own_at old.own n + x) (same n);
-  refers = moves.refers;
-  falls = moves.falls;
-  spare = moves.spare;
-  room = moves.room;
-}
-
 pub still_held : (from to : ℕ → ℕ) (old new : CountsValue) (k : ℕ) → from k ≤ own_at old.own k → 0 < to k → Moves from to old new → 0 < own_at new.own k
 still_held from to old new k le some moves = let e = moves.own k in omega (arith, e, le, some)
 
@@ -131,9 +102,6 @@ Moves_end k from to to' first old new some owns refers falls spare room less mov
 }
 
 -- holds that are added
-
-pub Raises_none : (counts : CountsValue) → Raises [] counts counts
-Raises_none counts = record { len = refl; own = λ n. omega arith; refers = refl; fallen = refl; same = λ n. refl; spare = refl; room = omega arith }
 
 pub Raises_hold : (k : ℕ) (names names' : List ℕ) (first old new : CountsValue) → k < length old.own → Owns (one_more k) old.own new.own → new.refers ≡ old.refers → new.fallen ≡ old.fallen → ((n : ℕ) → is_held new n ≡ is_held old n) → new.spare ≡ old.spare → old.room ≤ new.room + 1 → ((n : ℕ) → times n names' ≡ times n names + (if k == n then 1 else 0)) → length names' ≡ length names + 1 → Raises names first old → Raises names' first new
 Raises_hold k names names' first old new inside owns refers fallen same spare room more longer raises = record {

@@ -111,12 +111,6 @@ living_added marks encoder =
 
 -- All holds.
 
-pub owned_none : IsOwned [] [] [] []
-owned_none = record { own_len = refl; names_len = refl; own_are = λ n. by_test (nat_lt n 0) n }
-  where
-    by_test : (b : Bool) (n : ℕ) → 0 ≡ (if nat_lt n 0 then (if is_some (mark_at [] n).dropped then 0 else 1) else 0) + 0 + 0
-    by_test b n = let e = lives_out [] n (omega arith) in omega (arith, e)
-
 pub waits_le : (marks : List Mark) (names : List (List ℕ)) (awaited : List Awaited) (own : List ℕ) → IsOwned marks names awaited own → (n : ℕ) → waits awaited n ≤ own_at own n
 waits_le marks names awaited own owned n = let e = owned.own_are n in omega (arith, e)
 

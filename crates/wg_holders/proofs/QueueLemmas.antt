@@ -30,15 +30,6 @@ rises_among low high f (e ∷ es) rises is = elim (cases_eq e f) [
 
 -- encoders
 
-pub opens_closed : (marks : List Mark) (e : ℕ) (opened : List ℕ) → is_open_at marks e ≡ false → Opens marks (e ∷ opened) → Opens marks opened
-opens_closed marks e opened closed opens = record {
-  rises = rises_from (suc e) 0 (length marks) (length marks) opened (omega arith) (omega arith) opens.rises.2;
-  are_listed = λ f is. elim (cases_eq e f) [
-    | inl here ↦ absurd (true≢false (sym is ∙ (ap (is_open_at marks) (sym here) ∙ closed)))
-    | inr other ↦ sym (ap (λ b. b || is_among opened f) (ne_eqb e f other)) ∙ opens.are_listed f is
-  ];
-}
-
 pub opens_less : (old new : List Mark) (opened : List ℕ) → length new ≡ length old → ((e : ℕ) → is_open_at new e ≡ true → is_open_at old e ≡ true) → Opens old opened → Opens new opened
 opens_less old new opened len less opens = record {
   rises = rises_from 0 0 (length old) (length new) opened (omega arith) (omega (arith, len)) opens.rises;
@@ -185,10 +176,6 @@ tidy_consumed number old new opened awaited notes tidy = record {
     starts : (opened : List ℕ) → starts_open old opened ≡ true → starts_open new opened ≡ true
     starts [] is = is
     starts (e ∷ opened) is = same e ∙ is
-
--- an encoder that ended
-pub opens_ended : (number : ℕ) (old new : List Mark) (opened : List ℕ) → Notes (λ n. with_ended (number == n)) old new → Opens old opened → Opens new opened
-opens_ended number old new opened notes opens = opens_less old new opened notes.len (opens_none (λ n. with_ended (number == n)) old new (λ n mark. ended_opens (number == n) mark) notes) opens
 
 pub drops_ended : (number : ℕ) (old new : List Mark) (awaited : List Awaited) → Notes (λ n. with_ended (number == n)) old new → Drops old awaited → Drops new awaited
 drops_ended number old new awaited notes drops = drops_same old new awaited notes.len (field_same (λ (mark : Mark). mark.dropped) (λ n. with_ended (number == n)) old new (λ n mark. refl) notes) (opens_none (λ n. with_ended (number == n)) old new (λ n mark. ended_opens (number == n) mark) notes) drops

@@ -1,7 +1,7 @@
 -- Sums over numbers, and how often a list has a number.
-use Rattle.std.proofs.Common.{◌≡◌, ◌≢◌, ℕ, zero, suc, ◌+◌, ◌<◌, ◌≤◌, Bool, true, false, ◌||◌, ◌==◌, nat_lt, List, [], ◌∷◌, length, take, drop, get_or, inl, inr, refl, sym, ap, ap₂, ◌∙◌, subst, arith, true≢false, if◌then◌else◌}
-use Rattle.std.proofs.lemmas.Bool.{cases_eq, cases_lt, eq-eqb, lt-ltb}
-use Rattle.std.proofs.lemmas.List.{take_more, drop_more}
+use Rattle.std.proofs.Common.{◌≡◌, ◌≢◌, ℕ, zero, suc, ◌+◌, ◌<◌, ◌≤◌, Bool, true, false, ◌||◌, ◌==◌, nat_lt, List, [], ◌∷◌, length, take, get_or, inl, inr, refl, sym, ap, ap₂, ◌∙◌, subst, arith, true≢false, if◌then◌else◌}
+use Rattle.std.proofs.lemmas.Bool.{cases_eq, eq-eqb, lt-ltb}
+use Rattle.std.proofs.lemmas.List.{take_more}
 use Rattle.wg_model.specs.Holding.{is_among, any_below}
 use Rattle.wg_counts.specs.Counts.{times}
 pub use Rattle.wg_counts.proofs.Sums.{one_if, at_same, at_other}
@@ -18,17 +18,6 @@ pub times_take_more : (n : ℕ) (xs : List ℕ) (i d : ℕ) → i < length xs �
 times_take_more n xs i d lt =
     let e = ap (times n) (take_more xs i d lt) in
     let f = times_append n (take i xs) (get_or xs i d ∷ []) in
-    omega (arith, e, f)
-
-pub times_drop_more : (n : ℕ) (xs : List ℕ) (i d : ℕ) → i < length xs → times n (drop (i + 1) xs) + (if get_or xs i d == n then 1 else 0) ≡ times n (drop i xs)
-times_drop_more n xs i d lt =
-    let e = ap (times n) (drop_more xs i d lt) in
-    omega (arith, e)
-
-pub times_drop_here : (xs : List ℕ) (i d : ℕ) → i < length xs → 0 < times (get_or xs i d) (drop i xs)
-times_drop_here xs i d lt =
-    let e = times_drop_more (get_or xs i d) xs i d lt in
-    let f = at_same (get_or xs i d) (get_or xs i d) refl in
     omega (arith, e, f)
 
 -- a list has a number where it is among it
@@ -48,13 +37,6 @@ among_at (x ∷ xs) (suc i) d lt = or_right (x == get_or xs i d) (is_among xs (g
     or_right : (a b : Bool) → b ≡ true → (a || b) ≡ true
     or_right true b e = refl
     or_right false b e = e
-
--- A list of numbers that are below a bound has no other.
-pub times_past : (high n : ℕ) (xs : List ℕ) → ((k : ℕ) → is_among xs k ≡ true → k < high) → high ≤ n → times n xs ≡ 0
-times_past high n xs back past = elim (cases_lt 0 (times n xs)) [
-  | inl some ↦ absurd (let lt = back n (sym (times_among n xs) ∙ lt-ltb 0 (times n xs) some) in omega (arith, lt, past))
-  | inr none ↦ omega (arith, none)
-]
 
 -- sums
 

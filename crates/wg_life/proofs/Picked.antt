@@ -1,8 +1,8 @@
 -- Numbers that pass a test, least first, and lists that are made of them.
-use Rattle.std.proofs.Common.{◌≡◌, ◌≢◌, ℕ, zero, suc, ◌+◌, ◌-◌, ◌<◌, ◌≤◌, List, [], ◌∷◌, ◌++◌, map, length, get_or, Bool, true, false, ◌||◌, ◌==◌, nat_lt, Option, Some, None, option_map, option_to_list, inl, inr, refl, ap, ap₂, sym, subst, ◌∙◌, arith, add-one, append-nil, if◌then◌else◌}
+use Rattle.std.proofs.Common.{◌≡◌, ◌≢◌, ℕ, zero, suc, ◌+◌, ◌-◌, ◌<◌, ◌≤◌, List, [], ◌∷◌, ◌++◌, map, length, get_or, Bool, true, false, ◌==◌, nat_lt, Option, Some, None, option_map, option_to_list, inl, inr, refl, ap, ap₂, sym, subst, ◌∙◌, arith, add-one, append-nil, if◌then◌else◌}
 use Rattle.std.specs.List.{flat_map}
 use Rattle.std.specs.List.Sorted.{IsPermutation, IsNonDecreasing}
-use Rattle.std.proofs.lemmas.Bool.{cases_lt, eq-eqb, ne_eqb}
+use Rattle.std.proofs.lemmas.Bool.{cases_lt, ne_eqb}
 use Rattle.std.proofs.lemmas.Bool.Decides.{nat_tests}
 use Rattle.std.proofs.lemmas.List.{append_assoc, length_push, get_or_append_left, get_or_push}
 use Rattle.std.proofs.lemmas.List.Sorted.{IsNonDecreasingBy-short, IsNonDecreasingBy-push, IsNonDecreasingBy-drop, sum_by-IsPermutation}
@@ -30,14 +30,6 @@ picked_same p q (suc m) same = ap₂ ◌++◌ (picked_same p q m (λ n lt. same 
 -- one number more, which is not picked
 pub picked_none : (p : ℕ → Bool) (m : ℕ) → p m ≡ false → picked p (m + 1) ≡ picked p m
 picked_none p m fails = rw add-one (ap (λ b. picked p m ++ (if b then m ∷ [] else [])) fails ∙ append-nil (picked p m))
-
-length_picked_one : (b : Bool) (m : ℕ) (ms : List ℕ) (k : ℕ) → length ms ≤ k → length (ms ++ (if b then m ∷ [] else [])) ≤ k + 1
-length_picked_one true m ms k le = let e = length_push ms m in omega (arith, le, e)
-length_picked_one false m ms k le = let e = ap length (append-nil ms) in omega (arith, le, e)
-
-pub length_picked : (p : ℕ → Bool) (m : ℕ) → length (picked p m) ≤ m
-length_picked p zero = omega arith
-length_picked p (suc m) = let h = length_picked_one (p m) m (picked p m) m (length_picked p m) in omega (arith, h)
 
 flat_map-append : {X A : Type 0} (f : X → List A) (xs ys : List X) → flat_map f (xs ++ ys) ≡ flat_map f xs ++ flat_map f ys
 flat_map-append f [] ys = refl
@@ -139,14 +131,6 @@ length_with n (m ∷ ms) = by_test (nat_lt n m) (length_with n ms)
     by_test : (b : Bool) → length (with_number n ms) ≡ length ms + 1 → length (if b then n ∷ m ∷ ms else m ∷ with_number n ms) ≡ length (m ∷ ms) + 1
     by_test true e = omega arith
     by_test false e = omega (arith, e)
-
--- one of the numbers is not picked
-pub length_picked_lt : (p : ℕ → Bool) (m k : ℕ) → k < m → p k ≡ false → length (picked p m) < m
-length_picked_lt p m k lt out =
-    let e = ap length (picked_with p (λ n. k == n || p n) m k lt out (ap (λ b. b || p k) (eq-eqb k k refl)) (λ n below other. ap (λ b. b || p n) (ne_eqb k n (λ e. other (sym e))))) in
-    let more = length_with k (picked p m) in
-    let le = length_picked (λ n. k == n || p n) m in
-    omega (arith, e, more, le)
 
 -- Lists that rise and have each number as often are the same.
 

@@ -139,8 +139,8 @@ impl Life {
     {
         self.holders.reserve(links)?;
         if self.spare == 0 {
-            self.rows.reserve()?;
-            self.lost.reserve()?;
+            self.rows.reserve(1)?;
+            self.lost.reserve(1)?;
             self.live.reserve()?;
             let Some(more) = (self.live.count() as usize).checked_add(1) else {
                 return Err(NoMemory);
@@ -194,13 +194,6 @@ impl Life {
         self.spare -= 1;
         self.kept = self.kept.saturating_add(1);
         self.holders.add(made.encoder, made.links);
-    }
-
-    /// How many objects there are.
-    pub fn count(&self) -> u64
-        ensures { result ≡ length self.now.rows }
-    {
-        self.rows.len()
     }
 
     /// Notes a finish of an encoder.

@@ -45,7 +45,7 @@ impl Live {
         ensures place { OnOk result (HasPlacesFor self.new 1) }
     {
         self.slab.reserve(1)?;
-        self.keys.reserve()?;
+        self.keys.reserve(1)?;
         Ok(())
     }
 

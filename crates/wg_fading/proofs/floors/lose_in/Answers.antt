@@ -1,4 +1,4 @@
-use Rattle.std.proofs.Common.{◌/◌, ◌%◌, false, arith}
+use Rattle.std.proofs.Common.{◌≡◌, ◌≤◌, ◌/◌, ◌%◌, false, arith}
 use Rattle.wg_fading.specs.Places.{page_place, page_has}
 use Rattle.wg_fading.proofs.Reading.{at_same, at_within}
 use Rattle.wg_fading.proofs.floors.lose_in.Goals as goal
@@ -13,7 +13,8 @@ returns-clause-each c = λ j.
     at_same 4294967295 page_place pages (c.args.slot / 64) (j / 64) c.index_mut.result.now c.lose.new.page (j % 64) within c.index_mut.ensures.value (λ here. c.lose.ensures.each (j % 64))
 
 pub returns-clause-has : goal.returns-clause-has
-returns-clause-has c = λ past.
+returns-clause-has c = λ j stays.
+    let past : j / 64 ≡ c.args.slot / 64 → c.args.next / 64 ≤ c.args.slot / 64 = λ here. omega (arith, here, stays) in
     let pages = c.args.floor.now.pages.items in
     let within = at_within page_has pages (c.args.slot / 64) (c.args.slot % 64) c.requires in
-    at_same false page_has pages (c.args.slot / 64) (c.args.next / 64) c.index_mut.result.now c.lose.new.page (c.args.next % 64) within c.index_mut.ensures.value (λ here. c.lose.ensures.has (c.is_page_past-is_past.ensures past here) (c.args.next % 64))
+    at_same false page_has pages (c.args.slot / 64) (j / 64) c.index_mut.result.now c.lose.new.page (j % 64) within c.index_mut.ensures.value (λ here. c.lose.ensures.has (c.is_page_past-is_past.ensures (past here)) (j % 64))

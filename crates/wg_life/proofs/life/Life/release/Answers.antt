@@ -1,4 +1,4 @@
-use Rattle.std.proofs.Common.{◌≡◌, ℕ, List, ◌++◌, ◌∙◌, ap, map, subst, rules, arith}
+use Rattle.std.proofs.Common.{◌≡◌, ℕ, List, ◌++◌, ◌∙◌, ap, map, subst, arith}
 use Rattle.wg_orders.specs.Trace.{free}
 use Rattle.wg_trace.specs.declared.steps.Sort.{Sort}
 use Rattle.wg_life.specs.Lives.{releases, AreOver}
