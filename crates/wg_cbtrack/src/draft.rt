@@ -5,6 +5,7 @@ ghost use Rattle.wg_orders.specs.Steps.{Step};
 ghost use Rattle.wg_orders.specs.Trace.{Item, add_step, add_clear, to_clear, add_group};
 ghost use Rattle.wg_trace.specs.declared.steps.Deed.{Deed};
 ghost use Rattle.wg_cbtrack.specs.Cleared.{AreNeeded, uses_of};
+ghost use Rattle.wg_cbtrack.specs.Stands.{tracker_of};
 ghost use Rattle.wg_cbtrack.specs.Adds.{now_of, HasAdded};
 ghost use Rattle.wg_cbtrack.specs.Group.{placed_all};
 ghost use Rattle.wg_cbtrack.specs.Track.{IsTrack};
@@ -16,6 +17,7 @@ use wg_bars::LastUse;
 use wg_bars::kept::Notes;
 use wg_bars::last::{self, step_over};
 use wg_entry::NoMemory;
+use wg_fading::Fading;
 use wg_init::unset::unset_rows;
 use wg_init::{CellRow, CellState, noting};
 use wg_num::RunSet;
@@ -59,13 +61,13 @@ pub fn uses_of(
 
 /// Adds a step, with its barriers.
 fn add_step(
-    last_rows: &[Items<(PartRun, Usages)>],
-    set_rows: &[Items<(CellRow, RunSet)>],
+    last_rows: &Fading<Items<(PartRun, Usages)>>,
+    set_rows: &Fading<Items<(CellRow, RunSet)>>,
     draft: Draft,
     step: Step,
 ) -> Result<Draft, NoMemory>
     ensures { IfOk result (λ d. (f : List Item → List Item) →
-        HasAdded (record { last = last_rows.now; cells = set_rows.now }) draft f → HasAdded (record { last = last_rows.now; cells = set_rows.now }) d (λ trace. add_step (f trace) step)) }
+        HasAdded (tracker_of last_rows.now set_rows.now) draft f → HasAdded (tracker_of last_rows.now set_rows.now) d (λ trace. add_step (f trace) step)) }
 {
     let Draft {
         mut items,
@@ -81,15 +83,15 @@ fn add_step(
 
 /// Adds the clear of cells, if there are any.
 fn add_clear(
-    last_rows: &[Items<(PartRun, Usages)>],
-    set_rows: &[Items<(CellRow, RunSet)>],
+    last_rows: &Fading<Items<(PartRun, Usages)>>,
+    set_rows: &Fading<Items<(CellRow, RunSet)>>,
     draft: Draft,
     place: StepPlace,
     rows: Vec<(Cells, AccessKind)>,
 ) -> Result<Draft, NoMemory>
     ensures { IfOk result (λ d. (f : List Item → List Item) (steps : List Step) →
-        AreNeeded (now_of (record { last = last_rows.now; cells = set_rows.now }) draft).cells steps rows.items → HasAdded (record { last = last_rows.now; cells = set_rows.now }) draft f →
-        HasAdded (record { last = last_rows.now; cells = set_rows.now }) d (λ trace. add_clear (f trace) place (to_clear (f trace) steps))) }
+        AreNeeded (now_of (tracker_of last_rows.now set_rows.now) draft).cells steps rows.items → HasAdded (tracker_of last_rows.now set_rows.now) draft f →
+        HasAdded (tracker_of last_rows.now set_rows.now) d (λ trace. add_clear (f trace) place (to_clear (f trace) steps))) }
 {
     if rows.is_empty() {
         return Ok(draft);
@@ -108,16 +110,16 @@ fn add_clear(
 /// Adds what a tracker found of a command buffer: the clear of what it needs from before it, and the
 /// items of what is kept, joined with the uses outside.
 pub fn add_track(
-    last_rows: &[Items<(PartRun, Usages)>],
-    set_rows: &[Items<(CellRow, RunSet)>],
+    last_rows: &Fading<Items<(PartRun, Usages)>>,
+    set_rows: &Fading<Items<(CellRow, RunSet)>>,
     draft: Draft,
     place: StepPlace,
     track: Track<'_>,
 ) -> Result<Draft, NoMemory>
     ensures { IfOk result (λ d. (f : List Item → List Item) (first : Deed) (deeds : List Deed) →
         IsTrack (first ∷ deeds) track.entry.kept.now track.entry.ends.now track.entry.wants.now track.entry.leaves.now →
-        HasAdded (record { last = last_rows.now; cells = set_rows.now }) draft f →
-        HasAdded (record { last = last_rows.now; cells = set_rows.now }) d (λ trace. add_group (f trace) (placed_all place (first ∷ deeds)))) }
+        HasAdded (tracker_of last_rows.now set_rows.now) draft f →
+        HasAdded (tracker_of last_rows.now set_rows.now) d (λ trace. add_group (f trace) (placed_all place (first ∷ deeds)))) }
 {
     let alloc = *draft.items.allocator();
     let rows = unset_rows(alloc, set_rows, &draft.cells, track.wants)?;
@@ -135,14 +137,14 @@ pub fn add_track(
 
 /// Adds one step, as what a command buffer of its own does: the clear of what it needs, and the step.
 pub fn add_alone(
-    last_rows: &[Items<(PartRun, Usages)>],
-    set_rows: &[Items<(CellRow, RunSet)>],
+    last_rows: &Fading<Items<(PartRun, Usages)>>,
+    set_rows: &Fading<Items<(CellRow, RunSet)>>,
     draft: Draft,
     step: Step,
 ) -> Result<Draft, NoMemory>
     ensures { IfOk result (λ d. (f : List Item → List Item) →
-        HasAdded (record { last = last_rows.now; cells = set_rows.now }) draft f →
-        HasAdded (record { last = last_rows.now; cells = set_rows.now }) d (λ trace. add_group (f trace) (step ∷ []))) }
+        HasAdded (tracker_of last_rows.now set_rows.now) draft f →
+        HasAdded (tracker_of last_rows.now set_rows.now) d (λ trace. add_group (f trace) (step ∷ []))) }
 {
     let alloc = *draft.items.allocator();
     let rows = unset_rows(alloc, set_rows, &draft.cells, step.accesses.as_slice())?;
@@ -154,7 +156,7 @@ pub fn add_alone(
 /// Nothing is found yet. It takes no memory.
 pub fn begin(alloc: Global, last: &LastUse, cells: &CellState) -> Draft
     ensures items { result.items.items ≡ [] }
-    ensures added { HasAdded (record { last = last.now; cells = cells.now }) result (λ trace. trace) }
+    ensures added { HasAdded (tracker_of last.now cells.now) result (λ trace. trace) }
 {
     // What they keep is in order.
     let _ = last.rows();

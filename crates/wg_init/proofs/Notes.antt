@@ -1,19 +1,17 @@
 -- Notes of accesses.
 use Rattle.std.proofs.Common.{◌≡◌, ℕ, ◌+◌, ◌<◌, ◌&&◌, List, [], ◌∷◌, length, drop, get_or, Bool, true, false, ◌==◌, refl, ap, sym, ◌∙◌, if◌then◌else◌, subst, eqb-true, true≢false, nat_lt, arith}
 use Rattle.std.proofs.lemmas.List.{at_drop_more}
-use Rattle.wg_rows.specs.Runs.{Cells, cell_spot, cell_line, cell_lo, cell_hi}
+use Rattle.wg_rows.specs.Runs.{Cells, cell_line, cell_lo, cell_hi}
 use Rattle.wg_rows.specs.Uses.{AccessKind, kind_writes, kind_unsets}
-use Rattle.wg_orders.specs.Steps.{Step}
 use Rattle.std.proofs.lemmas.Bool.{ltb-true, lt-leb}
-use Rattle.wg_rows.specs.Rows.{line_object, list_eq}
-use Rattle.wg_num.specs.Runs.{Runs, AreApart, is_in, insert_run, remove_run, with_run, cut_runs, covers_run}
+use Rattle.wg_rows.specs.Rows.{list_eq}
+use Rattle.wg_num.specs.Runs.{Runs, AreApart, insert_run, remove_run, with_run, cut_runs, covers_run}
 use Rattle.wg_num.proofs.Members.{with_apart, cut_apart}
 use Rattle.wg_init.proofs.Effects.{runs_with}
-use Rattle.wg_bars.specs.Kept.{rows_in, over, with_notes, SetsNote, apply_all, most, SameRows}
-use Rattle.wg_init.specs.Rows.{row_line, row_of, row_object, SetRow, SetRows, runs_in, KeepsSet, RunsApart}
+use Rattle.wg_bars.specs.Kept.{rows_in, over, with_notes, SetsNote, SameRows}
+use Rattle.wg_init.specs.Rows.{row_line, row_of, row_object, SetRow, SetRows, runs_in, RunsApart}
 use Rattle.wg_init.specs.Effects.{effect, with_effect, is_full, changes_at, rows_after, IsAfter, AreNotes, NotesOne}
 use Rattle.wg_bars.proofs.Notes.{noted_rows}
-use Rattle.wg_bars.proofs.Noted.{placed}
 
 pub one_noted : (kept : SetRows) (fresh set : List (ℕ × List SetRow)) (x : Cells × AccessKind) (rows : List SetRow) → kind_writes x.1 ≡ true → is_full x.0 ≡ true → rows ≡ with_effect x.0 x.1 (over fresh (row_object (row_of x.0)) (rows_in kept (row_object (row_of x.0)))) → SetsNote fresh (row_object (row_of x.0)) rows set → NotesOne kept fresh x set
 one_noted kept fresh set x rows w f e sets object =
@@ -63,18 +61,14 @@ over_is kept old new xs notes object =
     ∙ (notes object
     ∙ ap (rows_after object xs) (sym (noted_rows kept old object)))
 
--- The steps of a note.
-pub note_is : (kept reserved grown applied : SetRows) (xs : List (Cells × AccessKind)) (fresh : List (ℕ × List SetRow)) (top : ℕ) → AreNotes kept [] xs fresh → top ≡ most fresh → reserved ≡ kept → SameRows reserved grown → top < length grown → applied ≡ apply_all fresh grown → IsAfter kept xs applied
-note_is kept reserved grown applied xs fresh top notes t r same l a object =
-    placed kept grown applied fresh (subst (λ rows. SameRows rows grown) r same) (subst (λ n. n < length grown) t l) a object
-    ∙ over_is kept [] fresh xs notes object
-
--- Rows that are the same are apart and stand for the same steps.
-pub same_apart : (kept other : SetRows) → SameRows kept other → RunsApart kept → RunsApart other
-same_apart kept other same apart object line = subst (λ rows. AreApart 0 (runs_in rows line)) (sym (same object)) (apart object line)
-
-pub same_keeps : (kept other : SetRows) (steps : List Step) → SameRows kept other → KeepsSet kept steps → KeepsSet other steps
-same_keeps kept other steps same keeps c = ap (λ rows. is_in (runs_in rows (cell_spot c).0) (cell_spot c).1) (same (line_object (cell_spot c).0)) ∙ keeps c
+-- The steps of a note: notes over those of objects that have no rows yet, rows made of these, notes put in place.
+pub note_is : (kept grown noted : SetRows) (xs : List (Cells × AccessKind)) (begun fresh : List (ℕ × List SetRow)) → ((object : ℕ) → over begun object (rows_in kept object) ≡ rows_in kept object) → AreNotes kept begun xs fresh → SameRows kept grown → noted ≡ with_notes grown fresh → IsAfter kept xs noted
+note_is kept grown noted xs begun fresh none notes same put object =
+    ap (λ rows. rows_in rows object) put
+    ∙ (noted_rows grown fresh object
+    ∙ (ap (over fresh object) (same object)
+    ∙ (notes object
+    ∙ ap (rows_after object xs) (none object))))
 
 -- The runs stay apart.
 effect_apart : (kind : AccessKind) (lo hi : ℕ) (runs : Runs) → AreApart 0 runs → AreApart 0 (effect kind lo hi runs)

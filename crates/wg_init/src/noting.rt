@@ -3,7 +3,7 @@ ghost use Rattle.std.specs.Prelude.{◌≡◌, ◌≤◌, ◌<◌, ◌++◌, ◌
 ghost use Rattle.wg_rows.specs.Runs.{cell_line, cell_lo, cell_hi};
 ghost use Rattle.wg_rows.specs.Uses.{kind_unsets};
 ghost use Rattle.wg_num.specs.Runs.{covers_run, insert_run};
-ghost use Rattle.wg_bars.specs.Kept.{with_notes};
+ghost use Rattle.wg_bars.specs.Kept.{with_notes, AddsKept, AreMade};
 ghost use Rattle.wg_init.specs.Rows.{runs_in};
 ghost use Rattle.wg_init.specs.Effects.{effect, with_effect, AreNotes, IsAfter, NotesOne};
 
@@ -11,8 +11,9 @@ use crate::cell_row::CellRow;
 use crate::cells::{row_object, row_of, same_row};
 use crate::unset::set_in;
 use std::alloc::Global;
-use wg_bars::kept::{Notes, apply, current, grow, most, reserve_to, set_note};
+use wg_bars::kept::{Notes, begin_to, current, grow, place, reserve_to, set_note};
 use wg_entry::NoMemory;
+use wg_fading::Fading;
 use wg_num::RunSet;
 use wg_rows::cell_runs::{cell_hi, cell_lo, unsets, writes};
 use wg_trace::items::Items;
@@ -94,11 +95,12 @@ fn sets_what_is_set(rows: &[(CellRow, RunSet)], run: Cells, kind: AccessKind) ->
 /// Notes what an access makes of kept rows with notes over them.
 fn note_one(
     alloc: Global,
-    kept: &[Items<(CellRow, RunSet)>],
+    kept: &Fading<Items<(CellRow, RunSet)>>,
     fresh: &mut Notes<(CellRow, RunSet)>,
     access: (Cells, AccessKind),
 ) -> Result<(), NoMemory>
-    ensures { OnOk result (NotesOne kept.now fresh.old access fresh.new) }
+    ensures notes { OnOk result (NotesOne kept.now.items fresh.old access fresh.new) }
+    ensures here { OnOk result (AddsKept kept.now fresh.old fresh.new) }
 {
     if !writes(access.1) {
         return Ok(());
@@ -107,7 +109,9 @@ fn note_one(
         return Ok(());
     }
     let object = row_object(row_of(access.0));
-    let rows = current(kept, fresh, object);
+    let Some(rows) = current(kept, fresh, object) else {
+        return Err(NoMemory);
+    };
     if sets_what_is_set(rows, access.0, access.1) {
         return Ok(());
     }
@@ -116,16 +120,18 @@ fn note_one(
     Ok(())
 }
 
-/// What accesses make of kept rows with notes over them, as notes.
+/// What accesses make of kept rows with notes over them, as notes. Without rows of an object that is
+/// written, which no step of a device does, it answers that there is no memory.
 pub fn notes_of(
     alloc: Global,
-    kept: &[Items<(CellRow, RunSet)>],
+    kept: &Fading<Items<(CellRow, RunSet)>>,
     fresh: Notes<(CellRow, RunSet)>,
     accesses: &[(Cells, AccessKind)],
 ) -> Result<Notes<(CellRow, RunSet)>, NoMemory>
-    ensures notes { IfOk result (λ v. AreNotes kept.now fresh accesses.now v) }
+    ensures notes { IfOk result (λ v. AreNotes kept.now.items fresh accesses.now v) }
     ensures noted { IfOk result (λ v.
-        IsAfter (with_notes kept.now fresh) accesses.now (with_notes kept.now v)) }
+        IsAfter (with_notes kept.now.items fresh) accesses.now (with_notes kept.now.items v)) }
+    ensures here { IfOk result (λ v. AddsKept kept.now fresh v) }
 {
     let mut fresh = fresh;
     for access in accesses {
@@ -134,19 +140,31 @@ pub fn notes_of(
     Ok(fresh)
 }
 
-/// Notes accesses in kept rows.
+/// The number behind the greatest object of accesses.
+fn end_of(accesses: &[(Cells, AccessKind)]) -> u64 {
+    let mut end = 0;
+    for access in accesses {
+        end = row_object(row_of(access.0)).saturating_add(1).max(end);
+    }
+    end
+}
+
+/// Notes accesses in kept rows, which are made of objects that had none.
 pub fn note_in(
-    kept: &mut Vec<Items<(CellRow, RunSet)>>,
+    kept: &mut Fading<Items<(CellRow, RunSet)>>,
     accesses: &[(Cells, AccessKind)],
 ) -> Result<(), NoMemory>
+    requires { AreMade kept.old }
     ensures noted { OnOk result (IsAfter kept.old.items accesses.now kept.new.items) }
+    ensures made { AreMade kept.new }
     ensures unchanged { OnErr result (kept.new.items ≡ kept.old.items) }
 {
-    let alloc = *kept.allocator();
-    let fresh = notes_of(alloc, kept.as_slice(), Notes::new(alloc), accesses)?;
-    let top = most(&fresh);
-    reserve_to(kept, top)?;
-    grow(kept, top);
-    apply(kept, fresh);
+    let alloc = kept.allocator();
+    let end = end_of(accesses);
+    let begun = begin_to(alloc, kept, end)?;
+    let fresh = notes_of(alloc, kept, begun, accesses)?;
+    reserve_to(kept, end)?;
+    grow(kept, end);
+    place(kept, fresh);
     Ok(())
 }

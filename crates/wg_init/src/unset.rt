@@ -13,6 +13,7 @@ use crate::cells::{row_object, row_of, same_row};
 use std::alloc::Global;
 use wg_bars::kept::{Notes, current};
 use wg_entry::NoMemory;
+use wg_fading::Fading;
 use wg_num::RunSet;
 use wg_rows::cell_runs::{cell_hi, cell_lo, cells_to, reads};
 use wg_rows::rows::put_all;
@@ -84,15 +85,16 @@ fn push_cells(
 }
 
 /// The cells that accesses read and that are not set in kept rows with notes over them, in printed
-/// form, each with the access of their clear.
+/// form, each with the access of their clear. Without rows of an object that is read, which no step of a
+/// device does, it answers that there is no memory.
 pub fn unset_rows(
     alloc: Global,
-    kept: &[Items<(CellRow, RunSet)>],
+    kept: &Fading<Items<(CellRow, RunSet)>>,
     fresh: &Notes<(CellRow, RunSet)>,
     accesses: &[(Cells, AccessKind)],
 ) -> Result<Vec<(Cells, AccessKind)>, NoMemory>
     ensures { IfOk result
-        (λ v. v.items ≡ unset_rows (with_notes kept.now fresh.now) accesses.now) }
+        (λ v. v.items ≡ unset_rows (with_notes kept.now.items fresh.now) accesses.now) }
 {
     let mut cells = Vec::new(alloc);
     let mut i = accesses.len();
@@ -100,7 +102,9 @@ pub fn unset_rows(
         i -= 1;
         let access = accesses[i];
         if reads(access.1) && cell_lo(access.0) < cell_hi(access.0) {
-            let rows = current(kept, fresh, row_object(row_of(access.0)));
+            let Some(rows) = current(kept, fresh, row_object(row_of(access.0))) else {
+                return Err(NoMemory);
+            };
             let missing = missing_in(alloc, rows, access.0)?;
             push_cells(&mut cells, access.0, missing.runs())?;
         }

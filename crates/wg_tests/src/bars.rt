@@ -70,7 +70,10 @@ fn barred(
 
 /// Whether a state has these rows of an object.
 fn is_row(state: &LastUse, object: u64, rows: &[(PartRun, Usages)]) -> bool {
-    state.rows_of(object) == rows
+    match state.rows_of(object) {
+        Some(found) => found == rows,
+        None => rows.is_empty(),
+    }
 }
 
 /// The barriers of three steps, and the rows after them.
@@ -103,9 +106,19 @@ type Told = (
     Result<bool, NoMemory>,
 );
 
-/// The barriers of three steps, and the rows after them of what is used and of what is not, and those of a copy.
-fn of_state(alloc: Global) -> Told {
+/// Last uses with rows of each object up to the texture.
+fn made(alloc: Global) -> Result<LastUse, NoMemory> {
     let mut state = LastUse::new(alloc);
+    for _ in 0..=TEXTURE {
+        state.reserve()?;
+        state.push();
+    }
+    Ok(state)
+}
+
+/// The barriers of three steps, and the rows after them of what is used and of what is not, and those of a copy.
+fn of_state(alloc: Global) -> Result<Told, NoMemory> {
+    let mut state = made(alloc)?;
     let barred = of_three(alloc, &mut state);
     let rows = [(layers(0, 3), SAMPLED)];
     let noted = [
@@ -113,10 +126,10 @@ fn of_state(alloc: Global) -> Told {
         is_row(&state, TEXTURE + 1, &[]),
         is_row(&state, 0, &[]),
     ];
-    (barred, noted, copy_has(&state, &rows))
+    Ok((barred, noted, copy_has(&state, &rows)))
 }
 
 #[test]
 fn barriers_go_from_the_last_set(rt: HostRuntime) {
-    assert!(rt; of_state(rt.alloc()) == ([Ok(true); 3], [true; 3], Ok(true)));
+    assert!(rt; of_state(rt.alloc()) == Ok(([Ok(true); 3], [true; 3], Ok(true))));
 }

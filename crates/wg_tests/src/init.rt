@@ -46,9 +46,17 @@ fn lacks(state: &CellState, alloc: Global, cells: &[Cells]) -> Result<bool, NoMe
     Ok(unset.as_slice() == cells)
 }
 
-/// Whether these runs of a row were written.
+/// Whether there are rows of the object of a row, and these runs of that were written.
 fn has(state: &CellState, row: CellRow, runs: &[(u64, u64)]) -> bool {
-    state.set_runs(row) == runs
+    match state.set_runs(row) {
+        Some(found) => found == runs,
+        None => false,
+    }
+}
+
+/// Whether there are no rows of the object of a row.
+fn has_none(state: &CellState, row: CellRow) -> bool {
+    state.set_runs(row).is_none()
 }
 
 /// Whether a copy of a state lacks these too.
@@ -75,7 +83,7 @@ fn of_state(alloc: Global) -> Told {
     let after = lacks(&state, alloc, &[]);
     let rows = [
         has(&state, CellRow::Buffer(BUFFER), &[(0, 12)]),
-        has(&state, CellRow::Buffer(BUFFER + 1), &[]),
+        has_none(&state, CellRow::Buffer(BUFFER + 1)),
         has(&state, CellRow::Queries(BUFFER), &[]),
     ];
     ([first, second, third], [before, copied, after], rows)
@@ -84,4 +92,24 @@ fn of_state(alloc: Global) -> Told {
 #[test]
 fn a_read_finds_what_was_not_written(rt: HostRuntime) {
     assert!(rt; of_state(rt.alloc()) == ([Ok(()); 3], [Ok(true); 3], [true; 3]));
+}
+
+/// Whether a buffer has no rows once they were let go, whether a read of it is then refused, and whether the
+/// object after it has rows as soon as it is made.
+fn of_let_go(alloc: Global) -> Result<[bool; 3], NoMemory> {
+    let mut state = CellState::new(alloc);
+    note(&mut state, alloc, (0, 4), AccessKind::Write)?;
+    state.let_go(BUFFER);
+    state.reserve()?;
+    state.push();
+    Ok([
+        has_none(&state, CellRow::Buffer(BUFFER)),
+        lacks(&state, alloc, &[]) == Err(NoMemory),
+        has(&state, CellRow::Buffer(BUFFER + 1), &[]),
+    ])
+}
+
+#[test]
+fn rows_are_let_go(rt: HostRuntime) {
+    assert!(rt; of_let_go(rt.alloc()) == Ok([true; 3]));
 }

@@ -1,12 +1,15 @@
-use Rattle.std.proofs.Common.{[]}
-use Rattle.wg_init.specs.Effects.{AreNotes}
+use Rattle.std.proofs.Common.{◌≤◌, ◌∙◌, length, ap, subst, arith}
+use Rattle.wg_bars.specs.Kept.{SameRows}
+use Rattle.wg_bars.proofs.Here.{made_longer, notes_longer}
 use Rattle.wg_init.proofs.Notes.{note_is}
 use Rattle.wg_init.proofs.noting.note_in.Goals as goal
 
 pub returns-clause-noted : goal.returns-clause-noted
 returns-clause-noted c =
-    let kept_slice = c.as_slice.ensures.value in
-    let top = c.most-top.ensures in
-    let none = c.new.ensures in
-    let noted : AreNotes c.args.kept.now.items [] c.args.accesses.now c.in_ok-fresh.fresh = rw none at (rw kept_slice at c.in_ok-fresh.ensures.notes) in
-    note_is c.args.kept.now.items c.reserve_to.new.kept.items c.grow.new.kept.items c.apply.new.kept.items c.args.accesses.now c.in_ok-fresh.fresh c.most-top.result noted (cc) c.reserve_to.ensures.same c.grow.ensures.same c.grow.ensures.reached c.apply.ensures
+    let same : SameRows c.args.kept.now.items c.grow.new.kept.items = subst (λ rows. SameRows rows c.grow.new.kept.items) c.in_ok-reserve_to.ensures.items c.grow.ensures.same in
+    note_is c.args.kept.now.items c.grow.new.kept.items c.place.new.kept.items c.args.accesses.now c.in_ok-begun.begun c.in_ok-fresh.fresh c.in_ok-begun.ensures.same c.in_ok-fresh.ensures.notes same c.place.ensures.items
+
+pub returns-clause-made : goal.returns-clause-made
+returns-clause-made c =
+    let longer : length c.args.kept.now.items ≤ length c.place.new.kept.items = omega (arith, c.grow.ensures.longer, ap length c.in_ok-reserve_to.ensures.items, ap length c.place.ensures.items, notes_longer c.grow.new.kept.items c.in_ok-fresh.fresh) in
+    made_longer c.args.kept.now c.place.new.kept c.requires (c.place.ensures.gone ∙ (c.grow.ensures.gone ∙ c.in_ok-reserve_to.ensures.gone)) longer

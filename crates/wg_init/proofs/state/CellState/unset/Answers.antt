@@ -8,10 +8,9 @@ pub returns : goal.returns
 returns c = λ trace keeps.
     let found = rw c.new.ensures at c.in_ok-found.ensures in
     let cells = c.in_ok-cells.ensures in
-    let kept_slice = c.as_slice.ensures.value in
-    let access_slice = c.as_slice-2.ensures in
-    let found_slice = c.as_slice-3.ensures.value in
+    let access_slice = c.as_slice.ensures in
+    let found_slice = c.as_slice-2.ensures.value in
     let view = c.self.view_is in
-    let apart = subst RunsApart view c.self.invariant in
-    let value : c.in_ok-cells.cells.items ≡ map (λ row. row.0) (unset_rows c.args.self.now c.args.step.now.accesses) = cc in
-    ap (map written) value ∙ (written_again c.args.self.now c.args.step.now.accesses apart ∙ unset_is c.args.self.now trace c.args.step.now apart keeps)
+    let apart : RunsApart c.args.self.now.items = subst (λ kept. RunsApart kept.items) view c.self.invariant.apart in
+    let value : c.in_ok-cells.cells.items ≡ map (λ row. row.0) (unset_rows c.args.self.now.items c.args.step.now.accesses) = cc in
+    ap (map written) value ∙ (written_again c.args.self.now.items c.args.step.now.accesses apart ∙ unset_is c.args.self.now.items trace c.args.step.now apart keeps)
