@@ -1,7 +1,6 @@
 -- What an event names was not let go, and what was let go is dead.
-use Rattle.std.proofs.Common.{◌≡◌, ℕ, suc, zero, ◌+◌, ◌-◌, ◌<◌, Bool, true, false, not, ◌&&◌, ◌||◌, nat_lt, List, [], ◌∷◌, ◌++◌, length, map, get_or, slice_index, Option, Some, None, is_some, is_none, option_map, option_to_list, unwrap_or, IfOk, IfSome, reverse, inl, inr, refl, sym, ap, ap₂, ◌∙◌, arith, subst, if◌then◌else◌, true≢false}
+use Rattle.std.proofs.Common.{◌≡◌, ℕ, suc, zero, ◌-◌, ◌<◌, Bool, true, false, not, ◌&&◌, ◌||◌, nat_lt, List, [], ◌∷◌, ◌++◌, length, map, get_or, Option, Some, None, is_some, is_none, option_map, option_to_list, unwrap_or, inl, inr, refl, sym, ap, ap₂, ◌∙◌, arith, if◌then◌else◌, true≢false}
 use Rattle.std.specs.Option.{option_map_or}
-use Rattle.std.specs.List.{list_any}
 use Rattle.std.proofs.lemmas.Bool.{cases_lt, lt-ltb, and_parts, ltb-true}
 use Rattle.std.proofs.lemmas.List.Folds.{list_any-append}
 use Rattle.wg_fading.specs.Fading.{was_let_go}
@@ -19,7 +18,7 @@ use Rattle.wg_types.specs.declared.bindings.BoundResource.TheVariants.{Buffer as
 use Rattle.wg_types.specs.declared.groups.GroupLayoutInfo.{GroupLayoutInfo}
 use Rattle.wg_types.specs.declared.groups.PipelineLayoutInfo.{PipelineLayoutInfo}
 use Rattle.wg_types.specs.Bindings.{resource_named, entries_named}
-use Rattle.wg_model.specs.Automatic.{automatic_layouts, entries_at, known_layouts}
+use Rattle.wg_model.specs.Automatic.{entries_at, known_layouts}
 use Rattle.wg_model.specs.Bound.{is_automatic}
 use Rattle.wg_model.specs.Making.{known_buffer, known_texture, known_view, known_sampler, known_group_layout, known_pipeline_layout, bound_resource, bound_entry, layout_made}
 use Rattle.wg_model.specs.Views.{view_info}
@@ -30,14 +29,14 @@ use Rattle.wg_history.specs.declared.events.Promise.TheVariants.{Map as ForMap}
 use Rattle.wg_history.specs.declared.events.Event.{Event}
 use Rattle.wg_history.specs.declared.events.Event.TheVariants.{CreateBuffer, CreateTexture, CreateView, CreateSampler, CreateBindGroupLayout, CreatePipelineLayout, CreateBindGroup, CreateComputePipeline, CreateRenderPipeline, GetBindGroupLayout, CreateQuerySet, CreateEncoder, CreateBundleEncoder, Finish, FinishBundle, Late, Submit, WriteBuffer, WriteTexture, Destroy, Drop, Complete, PushErrorScope, PopErrorScope, Lose, WorkDone, MapAsync, Unmap}
 use Rattle.wg_history.specs.Entries.{Past, effects_of, submitted}
-use Rattle.wg_history.specs.Objects.{count, info_at, info_made, known_in, made_info, resource_at}
+use Rattle.wg_history.specs.Objects.{count, info_at, info_made, known_in, made_info}
 use Rattle.wg_history.specs.Releases.{is_released}
 use Rattle.wg_holders.specs.Holders.{Holdings, mark_at, list_at, is_held as is_held_now}
 use Rattle.wg_life.specs.Lives.{LifeValue, AreDead as AreDeadIn, row_at, is_live, is_unreached, is_dead}
 use Rattle.wg_life.specs.declared.rows.Resource.{Resource}
 use Rattle.wg_life.specs.declared.rows.Row.{Row}
 use Rattle.wg_state.specs.Gone.{touched, asked_by, made_of, written_to, any_gone, names_gone, uses_gone, is_here, info_here, known_here, IsDead, AreDead}
-use Rattle.wg_state.specs.Rows.{memory_at, row_of, IsLifeOf}
+use Rattle.wg_state.specs.Rows.{memory_at, IsLifeOf}
 use Rattle.wg_state.proofs.LifeLemmas.{sort_at, held_same, holdings_of}
 use Rattle.wg_state.proofs.KeptLemmas.{reads_dropped}
 use Rattle.wg_state.proofs.Places.{info_none}
