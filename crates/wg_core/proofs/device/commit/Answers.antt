@@ -4,7 +4,7 @@ use Rattle.wg_history.specs.Entries.{Entry}
 use Rattle.wg_history.specs.Releases.{freed}
 use Rattle.wg_orders.specs.Trace.{Item, steps_of, free}
 use Rattle.wg_core.specs.Plans.{items_of}
-use Rattle.wg_core.specs.Cores.{HasAnswered}
+use Rattle.wg_core.specs.Cores.{HasStepped}
 use Rattle.wg_core.proofs.Tracing.{tracked_next, answered_by}
 use Rattle.wg_core.proofs.device.commit.Goals as goal
 
@@ -19,6 +19,6 @@ returns-clause-tracked c =
 pub returns-clause-answered : goal.returns-clause-answered
 returns-clause-answered c =
     let entry : Entry = record { who = c.args.who; event = c.args.event; reply = c.args.ready.plan.reply } in
-    subst (λ (reply : Reply). HasAnswered c.args.state.now.setup c.args.state.now.history c.add.new.self.history c.args.who c.args.event reply c.args.items.now.items c.add.new.trace.items c.args.spent.now.handed c.add.new.spent.handed) (sym c.add.ensures.reply)
+    subst (λ (reply : Reply). HasStepped c.args.state.now.setup c.args.state.now.history c.add.new.self.history c.args.who c.args.event reply c.args.items.now.items c.add.new.trace.items c.args.spent.now.handed c.add.new.spent.handed) (sym c.add.ensures.reply)
     (answered_by c.args.state.now.setup c.args.state.now.history c.add.new.self.history c.args.who c.args.event c.args.ready.plan.reply c.args.tracker.now c.args.ready.plan.added c.args.ready.plan.made c.args.ready.plan.uses.items _ _ _ _ c.args.state.now.run c.requires.tracked c.requires.prepared.planned c.add.ensures.history
     (c.add.ensures.trace ∙ ap (λ (items : List Item). items ++ map free (freed c.args.state.now.setup (entry ∷ reverse c.args.state.now.history))) c.apply.ensures.items) c.add.ensures.spent)
