@@ -1,6 +1,9 @@
 //! Reads a call: a function for each, with its keys. Those of calls on textures, bindings, compute passes,
 //! rendering, queries, bundles and canvases stand in files of their own.
+ghost use Rattle.std.specs.Prelude.{◌≡◌, bytes_eq};
+ghost use Rattle.std.specs.List.{find};
 ghost use Rattle.wg_json.specs.View.{view};
+ghost use Rattle.wg_types.specs.Words.{word_text, word_of};
 ghost use Rattle.wg_script.specs.Giving.{Gives};
 ghost use Rattle.wg_script.specs.Calls.{call_of, call_as, create_buffer_of, create_encoder_of, finish_of, submit_of, write_buffer_of, destroy_of, drop_of, complete_of, push_error_scope_of, keyless_of, pop_error_scope_of, work_done_of, lose_of, map_async_of, unmap_of, copy_buffer_to_buffer_of, clear_buffer_of, push_debug_group_of, pop_debug_group_of};
 
@@ -287,11 +290,48 @@ fn call_as(alloc: Global, word: Word, call: &Value<'_>) -> Result<Call, Refusal>
     }
 }
 
+/// The words of so many letters, or most of them: where one is left out it is found all the same, only later.
+fn words_of(letters: usize) -> &'static [Word] {
+    match letters {
+        4 => &[Word::Draw, Word::Drop],
+        6 => &[Word::Submit, Word::Finish],
+        7 => &[Word::Destroy, Word::Present],
+        8 => &[Word::Dispatch, Word::Complete, Word::MapAsync],
+        11 => &[Word::SetPipeline, Word::WriteBuffer, Word::DrawIndexed],
+        12 => &[Word::SetBindGroup, Word::CreateBuffer, Word::WriteTexture],
+        13 => &[Word::CreateEncoder, Word::CreateTexture],
+        15 => &[
+            Word::SetVertexBuffer,
+            Word::BeginRenderPass,
+            Word::CreateBindGroup,
+        ],
+        16 => &[Word::BeginComputePass],
+        18 => &[Word::CopyBufferToBuffer],
+        _ => &[],
+    }
+}
+
+fn word_among(words: &[Word], text: &str) -> Option<Word>
+    ensures { result ≡ find (λ word. bytes_eq (word_text word) text.now) words.now }
+{
+    words.iter().copied().find(|word| word.as_str() == text)
+}
+
+/// The call that a text names.
+fn word_named(text: &str) -> Option<Word>
+    ensures { result ≡ word_of text.now }
+{
+    match word_among(words_of(text.len()), text) {
+        Some(word) => Some(word),
+        None => Word::named(text),
+    }
+}
+
 /// Reads a call.
 pub fn call_of(alloc: Global, call: &Value<'_>) -> Result<Call, Refusal>
     ensures { Gives result (call_of (view call.now)) }
 {
-    match call.get("do").and_then(Value::as_str).and_then(Word::named) {
+    match call.get("do").and_then(Value::as_str).and_then(word_named) {
         Some(word) => call_as(alloc, word, call),
         None => Err(Refusal::Rule(6)),
     }
