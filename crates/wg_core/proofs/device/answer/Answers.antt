@@ -1,4 +1,4 @@
 use Rattle.wg_core.proofs.device.answer.Goals as goal
 
 pub returns-clause-answered : goal.returns-clause-answered
-returns-clause-answered c = rw (← c.in-Ok.ensures.setup) (rw (← c.in-Ok.ensures.history) (rw (← c.in-Ok.ensures.items) (rw (← c.in-Ok.ensures.handed) c.commit.ensures.answered)))
+returns-clause-answered c = rw (← c.prepare.ensures.setup) (rw (← c.prepare.ensures.history) (rw (← c.prepare.ensures.items) (rw (← c.prepare.ensures.handed) c.commit.ensures.answered)))

@@ -8,6 +8,15 @@ use Rattle.wg_core.specs.Cores.{HasStepped}
 use Rattle.wg_core.proofs.Tracing.{tracked_next, answered_by}
 use Rattle.wg_core.proofs.device.commit.Goals as goal
 
+pub apply-requires-clause-ready : goal.apply-requires-clause-ready
+apply-requires-clause-ready c = c.requires.prepared.planned.adds.ready
+
+pub apply-requires-clause-room : goal.apply-requires-clause-room
+apply-requires-clause-room c = let fits = c.requires.prepared.items_fit in omega (arith, fits)
+
+pub make_row-requires : goal.make_row-requires
+make_row-requires c = rw c.apply.ensures.spare c.requires.prepared.row
+
 pub returns-clause-tracked : goal.returns-clause-tracked
 returns-clause-tracked c =
     let entry : Entry = record { who = c.args.who; event = c.args.event; reply = c.args.ready.plan.reply } in
