@@ -20,5 +20,5 @@ invariant_of-self-2 c =
           c.push_reserved.ensures.items
           ∙ (ap₂ (λ (lines : List Line) (one : Line). lines ++ one ∷ []) (c.reserve.ensures.items ∙ c.self.invariant.lines_are) line
           ∙ (sym (map-append line_of c.self.inside.core.history (entry ∷ [])) ∙ ap (map line_of) (sym c.in_ok-reply.ensures.answered.history_is)));
-      items_are = c.in_ok-reply.ensures.answered.items_are [] c.self.invariant.items_are ∙ ap (λ (setup : Setup). Trace setup c.step_for_log-reply.new.self.history) (sym c.step_for_log-reply.ensures.setup);
+      items_are = c.in_ok-reply.ensures.answered.items_are [] c.self.invariant.items_are ∙ ap (λ (setup : Setup). Trace setup c.step_for_log.new.self.history) (sym c.step_for_log.ensures.setup);
     }
