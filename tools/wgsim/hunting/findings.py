@@ -65,7 +65,6 @@ class Findings:
         for key, times in done.met.items():
             if key in self.state["found"]:
                 self.state["found"][key]["times"] += times
-        self.state["about"] = done.about
 
     def calls_of(self, key: str) -> int:
         """How many calls the script has that is kept of a difference."""
@@ -113,7 +112,7 @@ class Findings:
         lines += [json.dumps(call) for call in answered.flat.calls] + ["```", ""]
         version = (TOP / "VERSION").read_text(encoding="utf-8").strip()
         lines += [f"Wethlorn {version}; {self.state['about'].get('browser', self.state['about'].get('command', ''))};"]
-        lines += [f"adapter {self.state['about'].get('adapter', 'none')}."]
+        lines += [f"adapter {self.state['about'].get('adapter') or 'of no name'}."]
         lines += [f"Met first in script {row['script']} of seed {self.state['seed']},"]
         lines += [f"{row['of']}; `hunt.json` has how often.", ""]
         return "\n".join(lines)

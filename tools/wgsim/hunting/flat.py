@@ -15,9 +15,12 @@ from .core import MOST, Answered, Core, Flat
 MEMORY = 2**24
 # How many threads or vertices a command may have that is carried out: more take a driver on a processor too long.
 MOST_RUNS = 2**16
-DROP, OUT_OF_MEMORY, LARGE, LONG, INTERFACE, FRAME = (
+# How many pixels a canvas has on a side at most: browsers take no more, or none of that.
+MOST_PIXELS = 2**31 - 1
+DROP, OUT_OF_MEMORY, LARGE, LONG, INTERFACE, FRAME, CANVAS = (
     "drops, which no page can make", "what takes much memory", "writes of many bytes", "dispatches and draws that take long",
     "interfaces that WGSL cannot say", "what is waited for while a canvas has a texture, which then expires",
+    "canvases that no page can make",
 )
 ROUNDS = 8
 
@@ -75,6 +78,8 @@ def unplayable(calls: list[dict[str, Any]]) -> dict[int, str]:
             found[number] = LARGE
         elif call["do"] in ("createComputePipeline", "createRenderPipeline") and not shaders.can_say(call):
             found[number] = INTERFACE
+        elif call["do"] == "createCanvas" and max(call["width"], call["height"]) > MOST_PIXELS:
+            found[number] = CANVAS
     return found
 
 

@@ -13,7 +13,7 @@ from wgsim.program import building
 from . import workers
 from .core import Answered, Core
 from .findings import Findings
-from .messages import Done, Ended, Found, Settings, Task
+from .messages import Begun, Done, Ended, Found, Settings, Task
 
 # How many scripts a worker plays at once.
 AT_ONCE = 16
@@ -43,7 +43,9 @@ class Hunt:
                 worker, message = working.next()
                 if isinstance(message, Ended):
                     raise exit_status.End(message.status, message.why)
-                if isinstance(message, Found):
+                if isinstance(message, Begun):
+                    self.findings.state["about"] = message.about
+                elif isinstance(message, Found):
                     self.found(message)
                 else:
                     self.finish(*message)

@@ -53,7 +53,6 @@ class Hunter:
     def play(self, numbers: range) -> Done:
         """Plays the scripts of some numbers, and what is left of each without what differs; returns what they came to."""
         self.done = Done()
-        self.done.about = self.other.about
         batch = list(self.batch(numbers))
         self.done.counts["scripts"] += len(batch)
         self.done.counts["calls"] += sum(len(made.answered.whole) for made in batch)

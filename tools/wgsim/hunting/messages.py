@@ -1,10 +1,10 @@
-"""What a hunt and its workers say to each other. The one writes a `Settings` and then a `Task` at a time, the others answer with what they
-find, and with a `Done` for each task."""
+"""What a hunt and its workers say to each other. The one writes a `Settings` and then a `Task` at a time, the others answer with a `Begun`,
+with what they find, and with the numbers and a `Done` for each task."""
 
 from __future__ import annotations
 
 import collections
-from typing import NamedTuple, Optional, Tuple
+from typing import Dict, NamedTuple, Optional, Tuple
 
 from .core import Answered
 from .differences import Difference
@@ -42,6 +42,12 @@ class Found(NamedTuple):
     is_small: bool
 
 
+class Begun(NamedTuple):
+    """Who plays."""
+
+    about: Dict[str, str]
+
+
 class Ended(NamedTuple):
     """Why a worker cannot go on: a status, and a sentence."""
 
@@ -51,11 +57,10 @@ class Ended(NamedTuple):
 
 class Done:
     """What the scripts of a task came to, each by its name and how often: what was counted, what was left out, which differences that are
-    known were met, and which others, by their keys. `about` tells who played."""
+    known were met, and which others, by their keys."""
 
     def __init__(self) -> None:
         self.counts: collections.Counter[str] = collections.Counter()
         self.left: collections.Counter[str] = collections.Counter()
         self.known: collections.Counter[str] = collections.Counter()
         self.met: collections.Counter[str] = collections.Counter()
-        self.about: dict[str, str] = {}

@@ -17,7 +17,7 @@ from wgsim.recorder import browser
 from . import browsers, engines
 from .core import Core
 from .hunter import Hunter, Other
-from .messages import Ended, Settings
+from .messages import Begun, Ended, Settings
 from .sources import Source, kept_in
 
 
@@ -45,6 +45,7 @@ def work(reads: Any, tell: Any) -> None:
     core = Core(None if settings.is_second else Program(False))
     source = Source(settings.seed, settings.of, kept_in(settings.kept) if settings.kept is not None else ())
     with other(settings) as played_by:
+        tell(Begun(played_by.about))
         hunter = Hunter(core, played_by, source, tell)
         while True:
             task = pickle.load(reads)
