@@ -136,6 +136,12 @@ def has_depth_color(difference: Difference) -> bool:
     return any(re.match("depth|stencil", word) for words in attached for word in words[1:])
 
 
+def has_visibility(difference: Difference) -> bool:
+    """Whether the visibility of an entry has a bit of 32 or more."""
+    entries = [entry for call in difference.script if call["do"] == "createBindGroupLayout" for entry in call["entries"]]
+    return any(entry["visibility"] >= 32 for entry in entries)
+
+
 def has_null_targets(difference: Difference) -> bool:
     """Whether a pipeline has targets, of which each is null."""
     return bool(difference.call.get("targets")) and not any(difference.call["targets"])
@@ -156,6 +162,7 @@ TESTS = {
     each.__name__: each
     for each in (
         is_served, is_texel_buffer, is_lost, is_encoder_refused, names_destroyed, has_canvas, has_pass, follows_map,
-        has_depth_color, has_null_targets, is_fewer,
+        has_depth_color, has_null_targets, has_visibility,
+        is_fewer,
     )
 }
