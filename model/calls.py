@@ -309,9 +309,16 @@ def is_auto(sort: tuple[Any, ...], value: str) -> bool:
     return sort[0] == "name or auto" and value == "auto"
 
 
+# Sorts of objects that name nothing.
+NAMELESS = (layout_entry_keys, iface_entry_keys, render_iface_entry_keys, vertex_buffer_keys, depth_state_keys)
+NAME_KEYS: Dict[str, List[Any]] = {
+    do: [(key, sort) for key, sort, _ in keys if sort[0] in WITH_NAMES and sort[1] not in NAMELESS] for do, keys in CALLS.items()
+}
+
+
 def name_keys(do: str) -> list[tuple[str, Any]]:
-    """The keys of a call whose values use names, in order, each with its sort."""
-    return [(key, sort) for key, sort, _ in CALLS[do] if sort[0] in WITH_NAMES]
+    """The keys of a call whose values may use names, in order, each with its sort."""
+    return NAME_KEYS[do]
 
 
 def names_in(sort: Any, value: Any) -> Any:
@@ -322,6 +329,5 @@ def names_in(sort: Any, value: Any) -> Any:
         return [] if is_auto(sort, value) else [(value, sort[1])]
     if sort[0] == "names":
         return [(name, sort[1]) for name in value]
-    if sort[0] == "object":
-        return [found for key, inner, _ in sort[1](value) for found in names_in(inner, value[key])]
-    return [found for item in value for found in names_in(("object", sort[1]), item)]
+    items = [value] if sort[0] == "object" else [item for item in value if item is not None]
+    return [found for item in items for key, inner, _ in sort[1](item) if inner[0] in WITH_NAMES for found in names_in(inner, item[key])]

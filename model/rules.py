@@ -13,11 +13,20 @@ from typing import Any, Tuple
 # How often each rule of each call was found met, and unmet, since the program began.
 met: "collections.Counter[Tuple[str, int, str]]" = collections.Counter()
 unmet: "collections.Counter[Tuple[str, int, str]]" = collections.Counter()
+# Whether they are counted. Who asks for many answers and for no counts says no to it, which spares a sixth of the time.
+is_counted = True
+
+
+def count(is_wanted: bool) -> None:
+    """Says whether tests of rules are counted from here on."""
+    global is_counted
+    is_counted = is_wanted
 
 
 def note(call: Any, number: Any, what: Any, is_met: Any) -> None:
     """Counts a test of a rule."""
-    (met if is_met else unmet)[(call, number, what)] += 1
+    if is_counted:
+        (met if is_met else unmet)[(call, number, what)] += 1
 
 
 def at_most(number: Any, what: Any, count: Any, most: Any) -> Any:
@@ -29,7 +38,8 @@ def at_most(number: Any, what: Any, count: Any, most: Any) -> Any:
 def first_unmet(call: Any, triples: Any) -> Any:
     """The number of the first rule that is unmet, or None."""
     for number, what, is_met in triples:
-        note(call, number, what, is_met)
+        if is_counted:
+            note(call, number, what, is_met)
         if not is_met:
             return number
     return None

@@ -8,9 +8,8 @@ from __future__ import annotations
 
 from typing import TYPE_CHECKING, Any, Callable
 
-from . import json_text, limits
+from . import json_text, limits, rules
 from .calls import CALLS, FLAG, KIND, NAME, NEEDED, ONE_NAME, THREE, WHOLE, WITH_KIND, WORD32, WORDS32
-from .rules import note
 
 if TYPE_CHECKING:
     from model.forms import Call
@@ -22,6 +21,9 @@ MOST_CALLS = 65_536
 MOST_ITEMS = 1_024
 GREATEST_WHOLE = 2**53 - 1
 GREATEST_WORD32 = 2**32 - 1
+# Of each call the keys that it may have, and those that it has to have.
+KEYS_OF = {do: {"do", *(key for key, _, _ in keys)} for do, keys in CALLS.items()}
+NEEDED_OF = {do: {key for key, _, default in keys if default is NEEDED} for do, keys in CALLS.items()}
 
 
 class Refused(Exception):
@@ -35,7 +37,8 @@ class Refused(Exception):
 
 def ask(rule: int, what: str, is_met: bool, place: Any = ()) -> None:
     """Refuses the script unless the rule is met."""
-    note("script", rule, what, is_met)
+    if rules.is_counted:
+        rules.note("script", rule, what, is_met)
     if not is_met:
         raise Refused(rule, place)
 
@@ -43,7 +46,11 @@ def ask(rule: int, what: str, is_met: bool, place: Any = ()) -> None:
 def read(data: bytes) -> tuple[int, dict[str, int], list[Any]]:
     """The budget of a script, its limits, and its phases, each a list of lanes, and each lane a list of pairs of a place and a call whose
     left out keys have their values."""
-    top = read_json(data)
+    return read_top(read_json(data))
+
+
+def read_top(top: Any) -> tuple[int, dict[str, int], list[Any]]:
+    """The same of what the text of a script stands for."""
     ask(2, "object", type(top) is dict)
     ask(2, "needed keys", {"budget", "phases"} <= set(top))
     ask(2, "no other key", set(top) <= {"budget", "limits", "phases"})
@@ -101,10 +108,9 @@ def read_call(place: tuple[int, int, int], call: Any) -> Call:
     ask(6, "object", type(call) is dict, place)
     do = call.get("do")
     ask(6, "word", type(do) is str and do in CALLS, place)
-    keys = CALLS[do]
-    ask(7, "unknown key", set(call) <= {"do"} | {key for key, _, _ in keys}, place)
-    ask(7, "missing key", all(key in call for key, _, default in keys if default is NEEDED), place)
-    return {"do": do, **read_values(place, "", call, keys)}
+    ask(7, "unknown key", call.keys() <= KEYS_OF[do], place)
+    ask(7, "missing key", NEEDED_OF[do] <= call.keys(), place)
+    return {"do": do, **read_values(place, "", call, CALLS[do])}
 
 
 def read_values(place: Any, where: Any, value: Any, keys: Any) -> Any:

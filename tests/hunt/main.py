@@ -21,15 +21,17 @@ import tempfile
 import time
 
 from wgsim import exit_status
-from wgsim.hunting import core, flat, known, shaders, shape, smaller, sources, translation
+from wgsim.hunting import core, engines, flat, hunter, known, shaders, shape, smaller, sources, translation
 from wgsim.program import program as programs
 from wgsim.reading import calls
 from wgsim.recorder import browser
 
+import liar
+
 TOP = pathlib.Path(__file__).resolve().parents[2]
 HERE = pathlib.Path(__file__).resolve().parent
 # Of each lie the calls that the scripts have of which one shows it, the cases of which mutations are hunted, the beginning of the name of
-# what is found, and how many calls a script has that is written by hand. What is found may have one more.
+# what is found, and how many calls a script has that is written by hand.
 LIES = {
     "copy": ("copyBufferToBuffer", "copies", ("finish-taken-rule-25",), 5),
     "scope": ("pushErrorScope", "errors", ("createBuffer-scope", "popErrorScope-scope", "uncapturederror-scope"), 6),
@@ -37,6 +39,7 @@ LIES = {
     "draw": ("draw", "draws", ("finish-refused",), 9),
     "crash": ("resolveQuerySet", "queries", ("script-crash",), 4),
 }
+SEEDS = 12
 FILES = {"script.json", "page.html", "wpt.html", "report.md"}
 LONGEST = 1500
 findings = []
@@ -65,7 +68,7 @@ def state_of(folder):
 def told_lie(folder, lie, out, is_browser=False):
     """A lie is found, made small, and told. A browser that ends is started anew for each script that is tried, so that fewer are."""
     _, _, names, most = LIES[lie]
-    most = 60 if is_browser and lie == "crash" else most + 1
+    most = 60 if is_browser and lie == "crash" else most
     found = [row for row in state_of(folder)["found"].values() if row["name"].startswith(names)]
     check(found, f"{lie}: nothing was found of it: {out[-600:]}")
     for row in found[:1]:
@@ -108,6 +111,9 @@ def test_bad_input(folder):
         (("--from", full), exit_status.UNREAD),
         (("--of", "noCall"), exit_status.WORDS),
         (("--scripts", "x"), exit_status.WORDS),
+        (("--jobs", "0"), exit_status.WORDS),
+        (("--patience", "0"), exit_status.WORDS),
+        (("--browser", HERE / "firefox_that_is_not_there"), exit_status.UNREAD),
         (("--scripts", "1", "--minutes", "1"), exit_status.WORDS),
         (("--traces",), exit_status.WORDS),
         (("--command", engine, "--browser", "chromium"), exit_status.WORDS),
@@ -115,6 +121,28 @@ def test_bad_input(folder):
     ):
         _, said = wgsim("hunt", "--out", folder / "new", *words, status=status)
         check(said.startswith("wgsim: ") or "\nwgsim: " in said, f"hunt {words}: says {said!r}")
+
+
+def test_firefox_fake(folder):
+    """A Firefox that has no WebGPU, ends, or speaks another protocol is told so, by a sentence and a status."""
+    for how, status, sentence in (
+        ("none", exit_status.UNREAD, "it has no WebGPU"),
+        ("other", exit_status.NO_ANSWER, "it speaks another protocol than Marionette 3"),
+        ("ends", exit_status.NO_ANSWER, "it has ended"),
+        ("refuses", exit_status.NO_ANSWER, "it refuses WebDriver:NewSession: unknown error: it is a fake"),
+    ):
+        words = ("--browser", HERE / "firefox_fake", "--scripts", 1, "--jobs", 1, "--out", folder / f"fake-{how}")
+        _, said = wgsim("hunt", *words, status=status, env={**os.environ, "WGSIM_FAKE": how})
+        check(said.endswith(f"wgsim: {HERE / 'firefox_fake'}: {sentence}\n"), f"a Firefox that is a fake, {how}: says {said!r}")
+
+
+def test_no_browser(folder):
+    """Where no browser is installed that is told, with the package that has one."""
+    for browsing, package in (("chromium", "chromium"), ("firefox", "firefox-esr")):
+        env = {**os.environ, "PATH": str(folder)}
+        ran = subprocess.run([sys.executable, TOP / "wgsim", "hunt", "--browser", browsing], capture_output=True, cwd=folder, env=env)
+        said = ran.stderr.decode()
+        check(ran.returncode == exit_status.UNREAD and f"apt-get install {package}`" in said, f"no {browsing}: {ran.returncode}: {said!r}")
 
 
 def test_stopped(folder):
@@ -131,17 +159,11 @@ def test_stopped(folder):
     check(b"differences" in out and state_of(folder / "stopped")["found"], f"stopped: what was found is not kept: {out.decode()[-300:]}")
 
 
-class Second:
-    """In the place of a program, so that the second reading answers."""
-
-    is_unproved = True
-
-
 def test_translation():
     """Each call of scripts is one in a browser, each kind of binding has its variable, and what a script is made of can be played."""
     check(set(translation.TRANSLATE) == set(calls.CALLS) - {"drop"}, "tools/wgsim/hunting/translation.py has not the calls of scripts")
     check(set(shaders.ATTRIBUTES) == set(calls.WORDS["attribute format"]), "shaders.py has not the formats of attributes")
-    asking, source = core.Core(Second()), sources.Source(3)
+    asking, source = core.Core(None), sources.Source(3)
     for number in range(12):
         _, top = source.script(number)
         made = flat.flattened(asking, top, random.Random(number))
@@ -159,10 +181,43 @@ def test_translation():
         translation.translated(answered)
 
 
+class Lying:
+    """The engine that lies, without a process of its own."""
+
+    about, limits, most_ends = {}, {}, 500
+
+    def __init__(self, lie):
+        self.lie = lie
+
+    def each(self, scripts):
+        return [self.told(answered) for answered in scripts]
+
+    def told(self, answered):
+        if self.lie == "crash" and any(call["do"] == "resolveQuerySet" for call in answered.flat.calls):
+            return {"gone": "no report"}
+        lines, lie = [entry.line for entry in answered.entry_of.values()], "none" if self.lie == "crash" else self.lie
+        return engines.answers_of(answered, getattr(liar, lie)(lines, answered.flat.calls))
+
+
+def test_small():
+    """What is made small has no more calls than what is written by hand, whatever it is made of."""
+    for lie, (of, cases, names, most) in LIES.items():
+        kept, shown = sources.kept_in(TOP / "tests/cases" / cases), 0
+        for seed in range(1, SEEDS + 1):
+            told = []
+            hunter.Hunter(core.Core(None), Lying(lie), sources.Source(seed, (of,), kept), told.append).play(range(6))
+            found = [each for each in told if each.is_small and each.difference.name().startswith(names)]
+            shown += bool(found)
+            for each in found:
+                calls = len(each.answered.flat.calls)
+                check(calls <= most, f"{lie}, seed {seed}: {each.difference.name()} has {calls} calls, and {most} will do")
+        check(shown > SEEDS // 3, f"{lie}: found with {shown} of {SEEDS} seeds")
+
+
 def test_known():
     """Each difference that is known has its point in the coverage, and a script, that is one."""
     coverage = (TOP / "docs/coverage.md").read_text(encoding="utf-8")
-    asking = core.Core(Second())
+    asking = core.Core(None)
     for row in known.read():
         check(row["row"] in coverage, f"tools/known.json: {row['name']}: docs/coverage.md has no point {row['row']}")
         check({"name", "kinds", "why", "section", "script"} <= set(row), f"tools/known.json: {row['name']} is not whole")
@@ -196,8 +251,9 @@ def main():
         os.environ[programs.NAMED] = os.path.abspath(words.program)
     with tempfile.TemporaryDirectory(prefix="hunt-") as name:
         folder = pathlib.Path(name)
-        tests = [test_translation, test_known, lambda: test_bad_input(folder), lambda: test_engine(folder), lambda: test_stopped(folder)]
-        names = ["translation", "known", "bad_input", "engine", "stopped"]
+        tests = [test_translation, test_small, test_known, lambda: test_bad_input(folder), lambda: test_firefox_fake(folder)]
+        tests += [lambda: test_no_browser(folder), lambda: test_engine(folder), lambda: test_stopped(folder)]
+        names = ["translation", "small", "known", "bad_input", "firefox_fake", "no_browser", "engine", "stopped"]
         if browser.found(None) is None:
             print("notice: Chromium is not installed, so no browser is hunted (Debian: apt-get install chromium)")
         else:

@@ -1,13 +1,12 @@
 // Plays scripts by the browser's own WebGPU, and tells what it answered.
 //
-// A play is { calls, limits, scopes, uncaught }, of which the calls are as tools/wgsim/hunting/translation.py has them. It is played once with error
-// scopes around each call that may make an error, so that each error is known with its call, and without the script's own scopes; and, where
-// it has such (`scopes`), a second time with those alone, so that it is seen which of them catches what: `uncaught` errors are then waited for,
-// which reach none. Nothing is waited for but what the
-// script waits for, so that what is asked for stays asked for until then.
+// A play is { calls, limits, scopes, uncaught }, of which the calls are as tools/wgsim/hunting/translation.py has them. It is played once with
+// error scopes around each call that may make an error, so that each error is known with its call, and without the script's own scopes; and,
+// where it has such (`scopes`), a second time with those alone, so that it is seen which of them catches what: `uncaught` errors are then
+// waited for, which reach none. Nothing is waited for but what the script waits for, so that what is asked for stays asked for until then.
 'use strict';
 
-const LONGEST = 4000, QUEUE = 20000;     // how long one promise is waited for, and the work of the queue, in milliseconds
+let LONGEST = 4000, QUEUE = 20000;       // how long one promise is waited for, and the work of the queue, in milliseconds
 const MOST_BYTES = 1 << 25;
 const CONSTRUCTORS = { validation: 'GPUValidationError', 'out-of-memory': 'GPUOutOfMemoryError', internal: 'GPUInternalError' };
 
@@ -195,8 +194,11 @@ function over(held, told) {
   return told;
 }
 
-// Plays several scripts at once, and returns what was answered to each.
-async function play(plays) { return JSON.stringify(await Promise.all(plays.map(one))); }
+// Plays several scripts at once, and returns what was answered to each. All is waited for `patience` times as long.
+async function play(plays, patience = 1) {
+  [LONGEST, QUEUE] = [4000 * patience, 20000 * patience];
+  return JSON.stringify(await Promise.all(plays.map(one)));
+}
 async function about() {
   if (!navigator.gpu) return JSON.stringify({ none: 'it has no WebGPU' });
   const found = await navigator.gpu.requestAdapter();

@@ -7,7 +7,6 @@ Where no program is proved, the second reading answers first, and the program wi
 from __future__ import annotations
 
 import re
-import sys
 from typing import TYPE_CHECKING, Callable, NoReturn
 
 from wgsim import exit_status, inputs
@@ -16,23 +15,20 @@ from wgsim.program.program import Program
 if TYPE_CHECKING:
     import argparse
 
-    from wgsim.hunting.core import Core
-    from wgsim.hunting.findings import Findings
-    from wgsim.hunting.hunt import Other
-    from wgsim.hunting.sources import Source
-
 HELP = "scripts at random, played by a browser or an engine"
 BY_PROGRAM = True
 SCRIPTS, SEED, FOLDER = 1000, 1, "hunt"
 
 
 def add_words(parser: argparse.ArgumentParser) -> None:
-    parser.add_argument("--browser", metavar="BROWSER", help="chromium, or the path of a browser that takes its flags")
+    parser.add_argument("--browser", metavar="BROWSER", help="chromium or firefox, or the path of one, or of a browser like it")
     parser.add_argument("--command", dest="engine", metavar="PROGRAM", help="hunts a command that reads a script and writes a report")
     parser.add_argument("--traces", action="store_true", help="has `check` judge the traces of the command too")
     parser.add_argument("--seed", metavar="N", help=f"of what the scripts are made: {SEED}")
     parser.add_argument("--scripts", metavar="N", help=f"how many scripts are played: {SCRIPTS}")
     parser.add_argument("--minutes", metavar="M", help="or for how many minutes")
+    parser.add_argument("--jobs", metavar="N", help="how many processes play side by side, each with its own browser: one for a processor")
+    parser.add_argument("--patience", metavar="N", help="waits N times as long for a browser, on a machine that has much else to do")
     parser.add_argument("--of", metavar="CALLS", help="scripts with one of these calls alone, parted by commas")
     parser.add_argument("--from", dest="kept", metavar="FOLDER", help="mutations of the scripts in a folder too")
     parser.add_argument("--out", metavar="FOLDER", help=f"where what is found is written: {FOLDER}; one of an earlier hunt goes on")
@@ -40,9 +36,10 @@ def add_words(parser: argparse.ArgumentParser) -> None:
 
 def test(words: argparse.Namespace, wrong: Callable[[str], NoReturn]) -> None:
     """The words that go together."""
-    for name, word in (("--seed", words.seed), ("--scripts", words.scripts), ("--minutes", words.minutes)):
+    for name in ("seed", "scripts", "minutes", "jobs", "patience"):
+        word = getattr(words, name)
         if word is not None and not re.fullmatch(r"[0-9]{1,9}", word) or word == "0":
-            wrong(f"{name} has a number from 1 to 999999999, and not {word}")
+            wrong(f"--{name} has a number from 1 to 999999999, and not {word}")
     if words.scripts is not None and words.minutes is not None:
         wrong("--scripts and --minutes are two ends")
     if words.engine is not None and words.browser is not None:
@@ -52,39 +49,27 @@ def test(words: argparse.Namespace, wrong: Callable[[str], NoReturn]) -> None:
 
 
 def act(words: argparse.Namespace) -> int:
-    from wgsim.hunting import browsers, core, engines, findings, sources
-    from wgsim.recorder import browser
+    from wgsim.hunting import browsers, core, engines, findings, hunt, messages, sources, workers
 
-    if sys.version_info < (3, 9):
-        raise exit_status.End(exit_status.NOT_BUILT, "hunt makes its scripts by what Python has from 3.9 on")
-    kept = sources.kept_in(words.kept) if words.kept is not None else ()
     of = sources.calls_named(words.of) if words.of is not None else ()
+    if words.kept is not None:
+        sources.kept_in(words.kept)
     path = browsers.path_of(words.browser) if words.engine is None else None
+    if words.engine is not None:
+        engines.words_of(words.engine)
     program = Program(words.is_unproved)
-    engine = engines.Engine(words.engine, program if words.traces else None) if words.engine is not None else None
     found = findings.Findings(words.out or FOLDER, int(words.seed or SEED))
     program.ready()
-    source = sources.Source(found.state["seed"], of, kept)
-    try:
-        if engine is not None:
-            return hunted(words, core.Core(program), engine, source, found)
-        with browsers.opened(path) as player:
-            player.begin()
-            return hunted(words, core.Core(program), player, source, found)
-    except browsers.NoWebGpu as none:
-        raise exit_status.End(exit_status.UNREAD, f"{path}: {none}") from None
-    except browser.Gone as gone:
-        raise exit_status.End(exit_status.NO_ANSWER, f"{path}: {gone}") from None
-
-
-def hunted(words: argparse.Namespace, core: Core, other: Other, source: Source, found: Findings) -> int:
-    """Hunts, and tells what was found, also where the hunt is stopped."""
-    from wgsim.hunting import findings, hunt
-
-    hunting = hunt.Hunt(core, other, source, found, lambda line: inputs.write(line + "\n"))
+    settings = messages.Settings(
+        found.state["seed"], of, words.kept, path, words.engine, words.traces, words.is_unproved, program.is_unproved,
+        int(words.patience or 1),
+    )
+    confirm = core.Core(program) if program.is_unproved else None
+    hunting = hunt.Hunt(settings, confirm, found, lambda line: inputs.write(line + "\n"))
     minutes = int(words.minutes) if words.minutes is not None else None
+    scripts = None if minutes is not None else int(words.scripts or SCRIPTS)
     try:
-        hunting.run(None if minutes is not None else int(words.scripts or SCRIPTS), minutes)
+        hunting.run(scripts, minutes, int(words.jobs) if words.jobs is not None else workers.most())
     finally:
         found.save()
         hunting.clear()

@@ -1,4 +1,4 @@
-"""Has a browser play scripts by the page of the tool, tools/player. It is driven by two pipes, and started again where it ends or hangs."""
+"""Has a browser play scripts by the page of the tool, tools/player. It is started again where it ends or hangs."""
 
 from __future__ import annotations
 
@@ -10,10 +10,11 @@ import tempfile
 from typing import Any, Iterator
 
 from wgsim import TOP, exit_status
-from wgsim.recorder import browser, visit
+from wgsim.recorder import browser, marionette, visit
 
 from .core import Answered
 from .differences import is_uncaught
+from .pages import Page, begun
 from .translation import SCOPES, translated
 
 PAGE = TOP / "tools/player/player.html"
@@ -21,6 +22,8 @@ PAGE = TOP / "tools/player/player.html"
 LONGEST, TO_BEGIN = 60, 90
 # How many scripts one page plays before it is loaded anew, so that nothing that it keeps adds up.
 MOST_PLAYS = 400
+# The words for browsers: the names under which each is installed, and the package of Debian that has it.
+KINDS = {"chromium": (browser.NAMES, "chromium"), "firefox": (marionette.NAMES, "firefox-esr")}
 
 
 class NoWebGpu(Exception):
@@ -28,59 +31,42 @@ class NoWebGpu(Exception):
 
 
 class Player:
-    """A browser with the page that plays. `begin` starts it; it is started by the first play too."""
+    """A browser with the page that plays. `begin` starts it; it is started by the first play too. All is waited for `patience` times as
+    long as on a machine that has nothing else to do."""
 
-    def __init__(self, path: str, address: str, folder: str) -> None:
-        self.path, self.address, self.folder = path, address, folder
-        self.browsing: Any = None
-        self.session = ""
+    def __init__(self, path: str, address: str, folder: str, patience: int = 1) -> None:
+        self.path, self.address, self.folder, self.patience = path, address, folder, patience
+        self.page: Page | None = None
         self.plays, self.starts = 0, 0
         self.about: dict[str, str] = {}
         self.limits: dict[str, int] = {}
         self.most_ends = 24
 
-    def begin(self) -> None:
+    def begin(self) -> Page:
         """Starts the browser, and opens the page."""
         self.starts += 1
-        self.browsing = browser.Browser(self.path, os.path.join(self.folder, f"profile-{self.starts}"))
-        self.open_page()
+        self.page = begun(self.path, os.path.join(self.folder, f"profile-{self.starts}"), self.patience * TO_BEGIN)
+        self.open_page(self.page)
+        return self.page
 
-    def open_page(self) -> None:
-        """Opens the page in a new tab, and asks which browser and adapter play."""
-        target = self.browsing.ask("Target.createTarget", seconds=TO_BEGIN, url="about:blank")["targetId"]
-        self.session = self.browsing.ask("Target.attachToTarget", targetId=target, flatten=True)["sessionId"]
-        self.browsing.ask("Page.enable", self.session)
-        self.browsing.ask("Page.navigate", self.session, url=self.address)
-        told = json.loads(self.evaluate(READY, TO_BEGIN))
+    def open_page(self, page: Page) -> None:
+        """Opens the page anew, and asks which browser and adapter play."""
+        page.open(self.address)
+        told = json.loads(page.evaluate(READY % (300 * self.patience), self.patience * TO_BEGIN))
         if "none" in told:
             raise NoWebGpu(told["none"])
         self.limits = told.pop("limits", {})
-        self.about, self.target, self.plays = told, target, 0
+        self.about, self.plays = told, 0
 
-    def renew(self) -> None:
-        """Opens the page anew."""
-        self.browsing.ask("Target.closeTarget", targetId=self.target)
-        self.open_page()
-
-    def evaluate(self, expression: str, seconds: float) -> Any:
-        """What an expression comes to in the page."""
-        self.browsing.waiting.clear()
-        words = {"expression": expression, "awaitPromise": True, "returnByValue": True}
-        told = self.browsing.ask("Runtime.evaluate", self.session, seconds, **words)
-        if "exceptionDetails" in told:
-            details = told["exceptionDetails"]
-            raise browser.Gone(f"the page failed: {details.get('exception', {}).get('description') or details['text']}")
-        return told["result"].get("value")
-
-    def play(self, plays: list[dict[str, Any]], seconds: float = LONGEST) -> list[dict[str, Any]]:
+    def play(self, plays: list[dict[str, Any]]) -> list[dict[str, Any]]:
         """What the browser answers to some scripts; it is `browser.Gone` where it ends or hangs, and is then started by the next play."""
         try:
-            if self.browsing is None:
-                self.begin()
-            elif self.plays >= MOST_PLAYS:
-                self.renew()
+            page = self.page or self.begin()
+            if self.plays >= MOST_PLAYS:
+                self.open_page(page)
             self.plays += len(plays)
-            return json.loads(self.evaluate(f"wgsimPlayer.play({json.dumps(plays)})", seconds))
+            words = f"wgsimPlayer.play({json.dumps(plays)}, {self.patience})"
+            return json.loads(page.evaluate(words, self.patience * LONGEST))
         except (browser.Gone, ValueError, TypeError) as gone:
             self.end()
             raise browser.Gone(str(gone)) from None
@@ -101,8 +87,8 @@ class Player:
 
     def end(self) -> None:
         """Ends the browser."""
-        if self.browsing is not None:
-            ended, self.browsing = self.browsing, None
+        if self.page is not None:
+            ended, self.page = self.page, None
             ended.end()
 
 
@@ -115,28 +101,33 @@ def play_of(answered: Answered) -> dict[str, Any]:
 
 READY = """\
 new Promise((done, fail) => {
-  const begun = Date.now(), look = () => globalThis.wgsimPlayer ? done(wgsimPlayer.about())
-    : Date.now() - begun > 30000 ? fail(new Error('the page of the tool was not loaded')) : setTimeout(look, 20);
+  let left = %d;
+  const look = () => globalThis.wgsimPlayer ? done(wgsimPlayer.about())
+    : left-- ? setTimeout(look, 100) : fail(new Error('the page of the tool was not loaded'));
   look();
 })"""
 
 
 def path_of(named: str | None) -> str:
-    """Where a browser is that is named, by its path or by a word; else one that is installed."""
-    path = browser.found(None if named == "chromium" else named)
-    if path is None:
-        names = ", ".join(browser.NAMES)
-        why = f"none of {names} is installed: on Debian `sudo apt-get install chromium` installs one; --browser names another one"
-        raise exit_status.End(exit_status.UNREAD, why)
+    """Where a browser is that is named, by its path or by a word; else a Chromium that is installed."""
+    if named is not None and named not in KINDS:
+        path = browser.found(named)
+    else:
+        names, package = KINDS[named or "chromium"]
+        path = next(filter(None, map(shutil.which, names)), None)
+        if path is None:
+            why = f"none of {', '.join(names)} is installed: on Debian `sudo apt-get install {package}` installs one"
+            raise exit_status.End(exit_status.UNREAD, f"{why}; --browser names another one")
+    assert path is not None
     return path
 
 
 @contextlib.contextmanager
-def opened(path: str) -> Iterator[Player]:
+def opened(path: str, patience: int = 1) -> Iterator[Player]:
     """A browser with the page that plays, which ends with what it was started for."""
     folder = tempfile.mkdtemp(prefix="wgsim-hunt-")
     with visit.served(str(PAGE)) as address:
-        player = Player(path, address, folder)
+        player = Player(path, address, folder, patience)
         try:
             yield player
         finally:

@@ -1,17 +1,18 @@
-"""Asks the core about scripts of one lane: the proved program where it is built, and else the second reading, which is quicker than the
-program without proofs; that one is then asked of each difference, and what it says counts."""
+"""Asks the core about scripts of one lane: the proved program, or the second reading where there is none."""
 
 from __future__ import annotations
 
 import json
 import random
-from typing import Any
+from typing import Any, Callable, NamedTuple
 
 from wgsim import exit_status
 from wgsim.program.program import Program
 from wgsim.reading.report import Entry
 
 MOST = 2**53 - 1
+# How often the program is asked anew, until each `complete` of a script says what is so.
+ROUNDS = 8
 
 
 class Flat:
@@ -50,48 +51,69 @@ class Answered:
                 self.settled_at.setdefault(number, []).append(self.call_of[promise])
 
 
-class Core:
-    """What is asked about scripts. `is_second` says that the second reading answers first."""
+class Script(NamedTuple):
+    """A script that was read: its calls with all their keys, and those that are played, each with its number, as what it is then."""
 
-    def __init__(self, program: Program) -> None:
+    flat: Flat
+    whole: list[dict[str, Any]]
+    events: list[tuple[int, dict[str, Any]]]
+    budget: int
+    limits: dict[str, int]
+
+
+class Core:
+    """What is asked about scripts: a program, or without one the second reading."""
+
+    def __init__(self, program: Program | None) -> None:
+        from model import rules
+
         self.program = program
-        self.is_second = program.is_unproved
+        rules.count(False)
 
     def answered(self, flat: Flat) -> Answered | None:
-        """What is answered to a script; None where it is refused."""
-        return self.asked(flat, self.is_second)
+        """What is answered to a script of which each `complete` says that all is complete that was queued by then, as it is where a page
+        waits for its queue; one that has nothing to say is left out. None where the script is refused."""
+        if self.program is None:
+            return self.asked(flat, played)
+        for _ in range(ROUNDS):
+            answered = self.asked(flat, self.by_program)
+            if answered is None:
+                return None
+            calls = with_completes(answered)
+            if calls == flat.calls:
+                return answered
+            flat = Flat(calls, flat.limits, flat.budget)
+        return None
 
     def confirmed(self, flat: Flat) -> Answered | None:
-        """What the program itself answers to it."""
-        return self.asked(flat, False)
+        """What the program answers to it, as it is."""
+        return self.asked(flat, self.by_program)
 
-    def asked(self, flat: Flat, is_second: bool) -> Answered | None:
-        """What one of the two answers."""
-        from model import canvases, names, script, turns
+    def asked(self, flat: Flat, answer: Callable[[Script], Answered | None]) -> Answered | None:
+        """What one of the two answers; None where the script is refused."""
+        from model import canvases, names, script
 
-        data = flat.data()
-        if len(data) > script.MOST_BYTES:
-            return None
         try:
-            budget, limits, phases = script.read(data)
+            budget, limits, phases = script.read_top(flat.top())
             names.bind(phases)
         except script.Refused:
             return None
-        whole = [call for _, call in phases[0][0]]
-        played = canvases.as_played(phases)
-        lane = played[0][0]
-        places = [place[2] for (place, _), is_event in zip(lane, turns.events_of([call for _, call in lane])) if is_event]
-        lines = self.second(budget, limits, played) if is_second else self.history(data)
-        return None if lines is None else Answered(flat, whole, places, lines)
+        lane = phases[0][0]
+        events = [(place[2], call) for place, call in canvases.events_in(lane)]
+        return answer(Script(flat, [call for _, call in lane], events, budget, limits))
 
-    def second(self, budget: int, limits: dict[str, int], played: Any) -> list[str]:
-        """The history by the second reading."""
-        from model import history, report, turns
+    def by_program(self, script: Script) -> Answered | None:
+        """What the program answers."""
+        from model import turns
 
-        return [report.entry_line(each) for each in turns.play_chosen(history.Setup(budget, limits), played, turns.only_one).entries()]
+        lines = self.history(script.flat.data())
+        is_event = turns.events_of([call for _, call in script.events])
+        places = [number for (number, _), is_one in zip(script.events, is_event) if is_one]
+        return None if lines is None else Answered(script.flat, script.whole, places, lines)
 
     def history(self, data: bytes) -> list[str] | None:
         """The history by the program."""
+        assert self.program is not None
         status, out = self.program.run(data)
         return history_of(out.decode("utf-8")) if status == exit_status.SAME else None
 
@@ -100,11 +122,50 @@ class Core:
         from model import answers
 
         data = json.dumps(top).encode()
-        if self.is_second:
+        if self.program is None:
             status, text = answers.answer(data, chance.choice)
             return text if status == exit_status.SAME else None
         status, out = self.program.run(data)
         return out.decode("utf-8") if status == exit_status.SAME else None
+
+
+def played(script: Script) -> Answered:
+    """What the second reading answers. A `complete` says what is so when it comes, or is passed over."""
+    from model import replies, report
+    from model.history import History, Setup
+
+    history = History(Setup(script.budget, script.limits))
+    flat, whole, gone, places, lines = script.flat, script.whole, set(), [], []
+    calls = list(flat.calls)
+    for number, call in script.events:
+        if call["do"] == "complete":
+            if history.issued() == history.completed():
+                gone.add(number)
+                continue
+            call = whole[number] = {**call, "op": history.issued()}
+            calls[number] = calls[number] if calls[number]["op"] == call["op"] else {**calls[number], "op": call["op"]}
+        entry = replies.answer_call(history, call, 0)
+        if entry.entry is not None:
+            places.append(number - len(gone))
+            lines.append(report.entry_line(entry))
+    if gone:
+        calls, whole = ([call for number, call in enumerate(each) if number not in gone] for each in (calls, whole))
+    return Answered(Flat(calls, flat.limits, flat.budget), whole, places, lines)
+
+
+def with_completes(answered: Answered) -> list[dict[str, Any]]:
+    """The calls with each `complete` saying that all is complete that was queued by then, and without those that have nothing to say."""
+    calls, issued, complete = [], 0, 0
+    for number, call in enumerate(answered.flat.calls):
+        entry = answered.entry_of.get(number)
+        issued = (entry.operation() or issued) if entry is not None else issued
+        if call["do"] == "complete":
+            if issued == complete:
+                continue
+            call = call if call["op"] == issued else {**call, "op": issued}
+            complete = issued
+        calls.append(call)
+    return calls
 
 
 def history_of(text: str) -> list[str]:

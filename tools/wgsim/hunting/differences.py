@@ -33,8 +33,14 @@ class Difference:
     def __init__(self, kind: str, number: int | None, word: str, core: str, other: str, rule: int | None = None, message: str = "") -> None:
         self.kind, self.number, self.word, self.core, self.other, self.rule, self.message = kind, number, word, core, other, rule, message
         self.call: dict[str, Any] = {}
-        # Of a pipeline that names its layout the entries of that, by group.
-        self.layouts: list[Any] = []
+        # The calls of the script, and the names of what the core refuses to make.
+        self.script: list[dict[str, Any]] = []
+        self.refused: set[str] = set()
+
+    def layouts(self) -> list[Any]:
+        """The entries of the layouts that a pipeline names, by group; none of another call."""
+        made = {each["as"]: each for each in self.script if each["do"] in ("createPipelineLayout", "createBindGroupLayout")}
+        return [made.get(name, {}).get("entries", []) for name in made.get(self.call.get("layout"), {}).get("layouts", [])]
 
     def key(self) -> str:
         """What is the same of differences that are one: the kind, the call, the rule and the message."""
@@ -63,13 +69,21 @@ class Compared:
         self.refused_shaders: list[tuple[int, str]] = []
         self.tainted: set[str] = set()
         self.recorded: dict[str, set[str]] = collections.defaultdict(set)
-        if self.of_the_whole():
-            return
-        for number, call in enumerate(answered.flat.calls):
-            self.compare(number, call)
-        self.compare_strays()
-        if not self.found and not self.tainted and "own" in told:
-            self.compare_scopes()
+        if not self.of_the_whole():
+            for number, call in enumerate(answered.flat.calls):
+                self.compare(number, call)
+            self.compare_strays()
+            if not self.found and not self.tainted and "own" in told:
+                self.compare_scopes()
+        self.tell_scripts()
+
+    def tell_scripts(self) -> None:
+        """Tells each difference the script in which it is."""
+        whole, entries = self.answered.whole, self.answered.entry_of.items()
+        refused = {whole[number].get("as", "") for number, entry in entries if entry.fault is not None}
+        for difference in self.found:
+            difference.script, difference.refused = whole, refused
+            difference.call = whole[difference.number] if difference.number is not None else {}
 
     def of_the_whole(self) -> bool:
         """Notes what makes an end of a play, where there is such."""
@@ -92,15 +106,8 @@ class Compared:
         fault = entry.fault if entry is not None else None
         differences = list(self.errors(number, call, fault, answer)) or list(self.settlements(number, call, answer))
         self.found += differences
-        for difference in differences:
-            difference.call = self.answered.whole[number]
-            difference.layouts = self.layouts_of(difference.call)
+        for _ in differences:
             self.taint(call)
-
-    def layouts_of(self, call: dict[str, Any]) -> list[Any]:
-        """The entries of the layouts that a pipeline names, by group; none of another call."""
-        made = {each["as"]: each for each in self.answered.whole if each["do"] in ("createPipelineLayout", "createBindGroupLayout")}
-        return [made.get(name, {}).get("entries", []) for name in made.get(call.get("layout"), {}).get("layouts", [])]
 
     def commands_of(self, call: dict[str, Any]) -> set[str]:
         """The names that the commands of an encoder use, of the finish that ends it; those of other calls are noted."""
@@ -115,8 +122,10 @@ class Compared:
         return set()
 
     def taint(self, call: dict[str, Any]) -> None:
-        """What comes of a call is not compared any more: what it makes, or what it changes."""
+        """What comes of a call is not compared any more: what it makes, or what it changes. A canvas gives the same texture again."""
         self.tainted |= {call["as"]} if "as" in call else shape.names_in(call)
+        if call["do"] == "currentTexture":
+            self.tainted.add(call["canvas"])
 
     def errors(self, number: int, call: dict[str, Any], fault: Any, answer: dict[str, Any]) -> Iterator[Difference]:
         """Whether both refuse a call, or both take it."""
@@ -155,12 +164,10 @@ class Compared:
 
     def compare_scopes(self) -> None:
         """What the script's own scopes caught, where nothing stood around the calls, and what reached none of them."""
-        own = self.told["own"]
+        own, caught = self.told["own"], self.caught()
         for number, call in enumerate(self.answered.flat.calls):
             if call["do"] == "popErrorScope":
-                answer = own["answers"].get(str(number), {})
-                found = [*self.scope(number, call, answer)]
-                self.found += found
+                self.found += self.scope(number, call, own["answers"].get(str(number), {}), caught.get(number))
         faults = [(entry.fault, self.answered.whole[number]) for number, entry in self.answered.entry_of.items() if entry.fault is not None]
         wanted = collections.Counter(fault[0] for fault, call in faults if is_uncaught(fault, call))
         met = collections.Counter(stray["kind"] for stray in own.get("stray") or [])
@@ -169,21 +176,42 @@ class Compared:
         if wanted != met and not self.found and not is_lost:
             self.found.append(Difference(SCOPE, None, "uncapturederror", told_of(wanted), told_of(met), None, f"{told_of(wanted)}"))
 
-    def scope(self, number: int, call: dict[str, Any], answer: dict[str, Any]) -> Iterator[Difference]:
+    def caught(self) -> dict[int, str]:
+        """What each scope gives that is closed and caught something, by the number of its pop: what is thrown comes to none."""
+        open_scopes: list[str | None] = []
+        given: dict[int, str] = {}
+        for number, call in enumerate(self.answered.whole):
+            entry = self.answered.entry_of.get(number)
+            if call["do"] == "pushErrorScope":
+                open_scopes.append(None)
+            elif call["do"] == "popErrorScope" and self.answered.settled.get(number, "").startswith("error"):
+                given[number] = open_scopes.pop() or "null"
+            elif call["do"] == "popErrorScope" and open_scopes:
+                open_scopes.pop()
+            elif entry is not None and entry.fault is not None and entry.fault[2].startswith("scope") and not is_thrown(entry.fault, call):
+                at = int(entry.fault[2].split()[1])
+                open_scopes[at] = open_scopes[at] or f"error {entry.fault[0]}"
+        return given
+
+    def scope(self, number: int, call: dict[str, Any], answer: dict[str, Any], caught: str | None) -> Iterator[Difference]:
         """Whether a scope gives what the core has for it."""
         if answer.get("settled", 0) > 1:
             yield from self.settlements(number, call, answer)
             return
-        wanted = re.sub(r" \d+$", "", self.answered.settled.get(number, ""))
+        wanted = caught or re.sub(r" \d+$", "", self.answered.settled.get(number, ""))
         found = answer.get("settle", "nothing")
         if wanted and wanted != found:
             yield Difference(SCOPE, number, call["do"], f"gives {wanted}", f"gives {found}", None, f"{wanted} {found}")
 
 
 def is_uncaught(fault: Any, call: dict[str, Any]) -> bool:
-    """Whether an error comes to no scope; what is thrown comes to none, and to no handler. Of a write it is the size that is thrown."""
-    is_thrown = fault is not None and fault[1] in THROWS and (call["do"] != "writeBuffer" or call["size"] % 4 != 0)
-    return fault is not None and fault[2] == "uncaptured" and not is_thrown
+    """Whether an error comes to no scope, and to a handler; what is thrown comes to neither."""
+    return fault is not None and fault[2] == "uncaptured" and not is_thrown(fault, call)
+
+
+def is_thrown(fault: Any, call: dict[str, Any]) -> bool:
+    """Whether a page gets a fault as an exception; of a write it is the size that is thrown."""
+    return fault[1] in THROWS and (call["do"] != "writeBuffer" or call["size"] % 4 != 0)
 
 
 def is_same(fault: Any, answer: dict[str, Any]) -> bool:

@@ -24,12 +24,7 @@ class Engine:
     """A command that plays scripts one by one. With `judge` its traces are judged too."""
 
     def __init__(self, words: str, judge: Program | None) -> None:
-        try:
-            self.words = shlex.split(words)
-        except ValueError as error:
-            raise exit_status.End(exit_status.WORDS, f"--command: {error}") from None
-        if not self.words or shutil.which(self.words[0]) is None:
-            raise exit_status.End(exit_status.UNREAD, f"--command: {self.words[0] if self.words else 'nothing'}: there is no such program")
+        self.words = words_of(words)
         self.judge, self.about = judge, {"command": words}
         self.limits: dict[str, int] = {}
         self.most_ends = 500
@@ -61,8 +56,16 @@ class Engine:
         status, said = self.judge.check(report)
         return {} if status == exit_status.SAME else {"trace": said.decode("utf-8", "replace").strip()}
 
-    def end(self) -> None:
-        """Nothing runs between two scripts."""
+
+def words_of(command: str) -> list[str]:
+    """The words of a command, of which the first is a program that is there."""
+    try:
+        words = shlex.split(command)
+    except ValueError as error:
+        raise exit_status.End(exit_status.WORDS, f"--command: {error}") from None
+    if not words or shutil.which(words[0]) is None:
+        raise exit_status.End(exit_status.UNREAD, f"--command: {words[0] if words else 'nothing'}: there is no such program")
+    return words
 
 
 def answers_of(answered: Answered, lines: list[str]) -> dict[str, Any]:

@@ -15,6 +15,7 @@ from wgsim.reading import rules
 from . import differences, smaller, written_pages
 from .core import Answered, Flat
 from .differences import Difference
+from .messages import Done
 
 STATE, FORM = "hunt.json", 1
 
@@ -56,19 +57,14 @@ class Findings:
     def count(self, what: str, times: int = 1) -> None:
         self.state["counts"][what] = self.state["counts"].get(what, 0) + times
 
-    def leave(self, left: dict[str, int]) -> None:
-        for what, times in left.items():
-            self.state["left"][what] = self.state["left"].get(what, 0) + times
-
-    def met(self, key: str) -> bool:
-        """Counts a difference, and says whether it was met before."""
-        found = self.state["found"].get(key)
-        if found is not None:
-            found["times"] += 1
-        return found is not None
-
-    def met_known(self, row: dict[str, Any]) -> None:
-        self.state["known"][row["name"]] = self.state["known"].get(row["name"], 0) + 1
+    def take(self, done: Done) -> None:
+        """Counts what some scripts came to."""
+        for part, counted in (("counts", done.counts), ("left", done.left), ("known", done.known)):
+            for what, times in counted.items():
+                self.state[part][what] = self.state[part].get(what, 0) + times
+        for key, times in done.met.items():
+            if key in self.state["found"]:
+                self.state["found"][key]["times"] += times
 
     def calls_of(self, key: str) -> int:
         """How many calls the script has that is kept of a difference."""
@@ -79,7 +75,7 @@ class Findings:
         key, found = difference.key(), self.state["found"]
         kept = found.get(key)
         name = kept["name"] if kept is not None else self.new_name(difference)
-        times = kept["times"] if kept is not None else 1
+        times = kept["times"] if kept is not None else 0
         found[key] = {
             "name": name, "times": times, "calls": len(answered.flat.calls), "script": number, "of": source, "core": difference.core,
             "other": difference.other,
@@ -116,9 +112,9 @@ class Findings:
         lines += [json.dumps(call) for call in answered.flat.calls] + ["```", ""]
         version = (TOP / "VERSION").read_text(encoding="utf-8").strip()
         lines += [f"Wethlorn {version}; {self.state['about'].get('browser', self.state['about'].get('command', ''))};"]
-        lines += [f"adapter {self.state['about'].get('adapter', 'none')}."]
+        lines += [f"adapter {self.state['about'].get('adapter') or 'of no name'}."]
         lines += [f"Met first in script {row['script']} of seed {self.state['seed']},"]
-        lines += [f"{row['of']}, and {row['times']} times by then; `hunt.json` has how often since.", ""]
+        lines += [f"{row['of']}; `hunt.json` has how often.", ""]
         return "\n".join(lines)
 
     def other(self) -> str:

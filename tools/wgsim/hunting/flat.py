@@ -9,15 +9,18 @@ import random
 from typing import Any
 
 from . import shaders, shape
-from .core import Answered, Core, Flat
+from .core import MOST, Answered, Core, Flat
 
 # The memory that a script may take, and how many bytes one write has at most.
 MEMORY = 2**24
 # How many threads or vertices a command may have that is carried out: more take a driver on a processor too long.
 MOST_RUNS = 2**16
-DROP, OUT_OF_MEMORY, LARGE, LONG, INTERFACE, FRAME = (
+# How many pixels a canvas has on a side at most: browsers take no more, or none of that.
+MOST_PIXELS = 2**31 - 1
+DROP, OUT_OF_MEMORY, LARGE, LONG, INTERFACE, FRAME, CANVAS = (
     "drops, which no page can make", "what takes much memory", "writes of many bytes", "dispatches and draws that take long",
     "interfaces that WGSL cannot say", "what is waited for while a canvas has a texture, which then expires",
+    "canvases that no page can make",
 )
 ROUNDS = 8
 
@@ -50,28 +53,12 @@ def playable(core: Core, flat: Flat, left: collections.Counter[str]) -> Answered
         if answered is None:
             return None
         gone = not_played(answered)
-        changed, idle = with_completes(answered)
         left.update(gone.values())
-        changed = shape.without(changed, idle | set(gone))
-        if changed == calls:
+        if not gone:
             # Nothing was out of memory, so that the same is answered where there is all the memory that a script can have.
-            answered.flat = Flat(calls, flat.limits)
+            answered.flat.budget = MOST
             return answered
-        calls = changed
-    return None
-
-
-def again(core: Core, flat: Flat) -> Answered | None:
-    """The same of a script that is a part of one that can be played, or like it with lesser numbers."""
-    for _ in range(ROUNDS):
-        answered = core.answered(flat)
-        if answered is None:
-            return None
-        changed, idle = with_completes(answered)
-        changed = shape.without(changed, idle)
-        if changed == flat.calls:
-            return answered
-        flat = Flat(changed, flat.limits)
+        calls = shape.without(answered.flat.calls, set(gone))
     return None
 
 
@@ -91,6 +78,8 @@ def unplayable(calls: list[dict[str, Any]]) -> dict[int, str]:
             found[number] = LARGE
         elif call["do"] in ("createComputePipeline", "createRenderPipeline") and not shaders.can_say(call):
             found[number] = INTERFACE
+        elif call["do"] == "createCanvas" and max(call["width"], call["height"]) > MOST_PIXELS:
+            found[number] = CANVAS
     return found
 
 
@@ -113,19 +102,3 @@ def runs_of(call: dict[str, Any]) -> int:
         counts = [call["x"], call["y"], call["z"]]
         return 0 if max(counts) > 65535 else counts[0] * counts[1] * counts[2]
     return call.get("vertices", call.get("indices", 0)) * call["instances"] if call["do"] in ("draw", "drawIndexed") else 0
-
-
-def with_completes(answered: Answered) -> tuple[list[dict[str, Any]], set[int]]:
-    """The calls with each `complete` saying that all is complete that was queued by then, as it is where a page waits for its queue; and
-    the numbers of those that have nothing to say."""
-    calls, idle, issued, complete = [], set(), 0, 0
-    for number, call in enumerate(answered.flat.calls):
-        entry = answered.entry_of.get(number)
-        issued = (entry.operation() or issued) if entry is not None else issued
-        if call["do"] == "complete" and issued > complete:
-            call = call if call["op"] == issued else {**call, "op": issued}
-            complete = issued
-        elif call["do"] == "complete":
-            idle.add(number)
-        calls.append(call)
-    return calls, idle

@@ -9,6 +9,7 @@ from typing import Any
 
 from wgsim import TOP
 
+from . import shape
 from .differences import SHORT, Difference
 
 FILE = TOP / "tools/known.json"
@@ -40,20 +41,20 @@ def is_of(row: dict[str, Any], family: str, number: int) -> bool:
 
 def fits(row: dict[str, Any], difference: Difference) -> bool:
     """Whether a row has a difference: its kind, its call, its rule and the words of the browser, as far as the row has them."""
-    return all([
-        SHORT[difference.kind] in row["kinds"],
-        "calls" not in row or difference.word in row["calls"],
-        "rules" not in row or difference.rule in row["rules"],
-        "says" not in row or re.search(row["says"], difference.message) is not None,
-        all(difference.call.get(key) in values for key, values in row.get("has", {}).items()),
-        "test" not in row or TESTS[row["test"]](difference),
-    ])
+    return (
+        SHORT[difference.kind] in row["kinds"]
+        and ("calls" not in row or difference.word in row["calls"])
+        and ("rules" not in row or difference.rule in row["rules"])
+        and ("says" not in row or re.search(row["says"], difference.message) is not None)
+        and all(difference.call.get(key) in values for key, values in row.get("has", {}).items())
+        and ("test" not in row or TESTS[row["test"]](difference))
+    )
 
 
 # ---- what a row may ask of the script besides, by the name of its `test` ----
 def is_served(difference: Difference) -> bool:
     """Whether each binding of a pipeline's interface is served by the entry of its layout, though the two are not of one kind."""
-    return all(serves(difference.layouts, entry) for entry in difference.call.get("iface", []))
+    return all(serves(difference.layouts(), entry) for entry in difference.call.get("iface", []))
 
 
 def serves(layouts: list[Any], entry: dict[str, Any]) -> bool:
@@ -82,4 +83,86 @@ def is_texel_buffer(difference: Difference) -> bool:
     return bool(usage & 1024) and usage < 2048
 
 
-TESTS = {"is_served": is_served, "is_texel_buffer": is_texel_buffer}
+def before(difference: Difference) -> list[dict[str, Any]]:
+    """The calls before the one that differs."""
+    return difference.script[: difference.number] if difference.number is not None else difference.script
+
+
+def is_lost(difference: Difference) -> bool:
+    """Whether the device is lost before the call."""
+    return any(call["do"] == "lose" for call in before(difference))
+
+
+def is_encoder_refused(difference: Difference) -> bool:
+    """Whether what a finish ends could not be made."""
+    return difference.call.get("on") in difference.refused
+
+
+def names_destroyed(difference: Difference) -> bool:
+    """Whether a command of the encoder that a finish ends names what is destroyed by then."""
+    encoders, destroyed, named = {difference.call.get("on")}, set(), set()
+    for call in before(difference):
+        if call["do"] == "destroy":
+            destroyed.add(call["object"])
+        elif call.get("on") in encoders:
+            named |= shape.names_in(call)
+            encoders |= {call["as"]} if "as" in call else set()
+    return bool(destroyed & named)
+
+
+def has_canvas(difference: Difference) -> bool:
+    """Whether a canvas gave a texture before."""
+    return any(call["do"] == "currentTexture" for call in before(difference))
+
+
+def has_pass(difference: Difference) -> bool:
+    """Whether what is submitted came of an encoder on which a pass was begun."""
+    ended = {call["as"]: call["on"] for call in before(difference) if call["do"] == "finish"}
+    begun = {call["on"] for call in before(difference) if call["do"] in ("beginComputePass", "beginRenderPass")}
+    return any(ended.get(name) in begun for name in difference.call.get("buffers", []))
+
+
+def follows_map(difference: Difference) -> bool:
+    """Whether a map of the same buffer was asked for before."""
+    return any(call["do"] == "mapAsync" and call["buffer"] == difference.call["buffer"] for call in before(difference))
+
+
+def has_depth_color(difference: Difference) -> bool:
+    """Whether a pass has a color attachment, and after it one of a format with depth or stencil."""
+    formats = {call["as"]: call["format"] for call in difference.script if call["do"] == "createTexture"}
+    views = {call["as"]: formats.get(call["texture"], "") for call in difference.script if call["do"] == "createView"}
+    passes = [call["colors"] for call in difference.script if call["do"] == "beginRenderPass"]
+    attached = [[views.get(color["view"], "") for color in colors if color is not None] for colors in passes]
+    return any(re.match("depth|stencil", word) for words in attached for word in words[1:])
+
+
+def has_visibility(difference: Difference) -> bool:
+    """Whether the visibility of an entry has a bit of 32 or more."""
+    entries = [entry for call in difference.script if call["do"] == "createBindGroupLayout" for entry in call["entries"]]
+    return any(entry["visibility"] >= 32 for entry in entries)
+
+
+def has_null_targets(difference: Difference) -> bool:
+    """Whether a pipeline has targets, of which each is null."""
+    return bool(difference.call.get("targets")) and not any(difference.call["targets"])
+
+
+def is_fewer(difference: Difference) -> bool:
+    """Whether fewer errors of each kind reached a handler than none caught."""
+    ours, theirs = counted(difference.core), counted(difference.other)
+    return theirs != ours and all(ours.get(kind, 0) >= times for kind, times in theirs.items())
+
+
+def counted(text: str) -> dict[str, int]:
+    """How many errors of which kinds are told in a line (differences.told_of)."""
+    return {kind: int(times) for times, kind in re.findall(r"(\d+) ([a-z-]+)", text)}
+
+
+TESTS = {
+    each.__name__: each
+    for each in (
+        is_served, is_texel_buffer, is_lost, is_encoder_refused, names_destroyed, has_canvas, has_pass, follows_map,
+        has_depth_color, has_null_targets, has_visibility,
+        is_fewer,
+    )
+}

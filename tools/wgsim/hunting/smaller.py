@@ -5,16 +5,20 @@ from __future__ import annotations
 import collections
 import copy
 import functools
+import itertools
 from typing import Any, Callable, Iterator
 
 from wgsim.reading import calls
 
 from . import shape
 from .core import Answered, Core, Flat
-from .flat import again
 
 # How many scripts are tried at once, and how many at most.
-AT_ONCE, MOST_TRIES = 8, 900
+AT_ONCE, MOST_TRIES = 8, 2000
+# How long a run of calls is of which each is taken away, and how many calls a script has of which any two are.
+SHORT_RUN, SHORT = 3, 16
+# Of how many lists of a script an item is taken of two at once.
+MOST_LISTS = 24
 ROUND = [0, 1, 2, 3, 4, 8, 16, 64, 256, 1024, 4096, 65536]
 # Keys whose numbers are sums of bits.
 SUMS = {"usage", "visibility", "mode"}
@@ -40,7 +44,7 @@ class Smaller:
         """Takes the first of some scripts that still shows the difference; whether there was one."""
         waiting: list[Answered] = []
         for script, limits in candidates:
-            answered = again(self.core, Flat(script, limits)) if script else None
+            answered = self.core.answered(Flat(script, limits)) if script else None
             if answered is not None and answered.entry_of and size_of(answered.flat) < size_of(self.best.flat):
                 waiting.append(answered)
             if len(waiting) == self.at_once and self.take(waiting):
@@ -63,14 +67,17 @@ class Smaller:
         if number is not None:
             self.accept(iter([(needed(self.best.flat.calls, number), self.best.flat.limits)]))
             self.accept(iter([(self.best.flat.calls[: number + 1], self.best.flat.limits)]))
-        for _ in range(4):
+        before: Any = None
+        while size_of(self.best.flat) != before and self.tries < self.most:
             before = size_of(self.best.flat)
             self.fewer_calls()
             self.accept(self.fewer_limits())
-            self.call_by_call(self.fewer_keys)
-            self.call_by_call(self.plainer_values)
-            if size_of(self.best.flat) == before or self.tries >= self.most:
-                break
+            self.call_by_call(lambda number: self.mended(self.fewer_keys(number)))
+            while self.accept(self.fewer_items()):
+                pass
+            # Values are looked at once no call goes any more, since there are many.
+            if len(self.best.flat.calls) == before[0]:
+                self.call_by_call(self.plainer_values)
         return self.best
 
     def call_by_call(self, candidates: Callable[[int], Iterator[tuple[list[dict[str, Any]], Any]]]) -> None:
@@ -81,16 +88,26 @@ class Smaller:
                 number += 1
 
     def fewer_calls(self) -> None:
-        """Takes away runs of calls, long ones first."""
+        """Takes away runs of calls, long ones first, and of a short script any two."""
         length = max(1, len(self.best.flat.calls) // 2)
         while length and self.tries < self.most:
             if not self.accept(self.without_runs(length)):
-                length //= 2
+                length = length // 2 if length > SHORT_RUN else length - 1
+        while len(self.best.flat.calls) <= SHORT and self.accept(self.without_pairs()):
+            pass
 
     def without_runs(self, length: int) -> Iterator[tuple[list[dict[str, Any]], Any]]:
+        """Scripts without a run of calls: of short ones each, of longer ones such as lie beside each other."""
         script, limits = self.best.flat.calls, self.best.flat.limits
-        for start in range(max(0, len(script) - length), -1, -length):
+        for start in range(max(0, len(script) - length), -1, -1 if length <= SHORT_RUN else -length):
             yield shape.without(script, set(range(start, start + length))), limits
+
+    def without_pairs(self) -> Iterator[tuple[list[dict[str, Any]], Any]]:
+        """Scripts without two calls that do not follow each other, as what opens something and what closes it."""
+        script, limits = self.best.flat.calls, self.best.flat.limits
+        for first, second in itertools.combinations(range(len(script)), 2):
+            if second > first + 1:
+                yield shape.without(script, {first, second}), limits
 
     def fewer_limits(self) -> Iterator[tuple[list[dict[str, Any]], Any]]:
         """The script without its limits, or without one of them."""
@@ -106,8 +123,35 @@ class Smaller:
             if slot.key.may_be_left_out and isinstance(slot.holder, dict):
                 yield changed(script, number, at, lambda slot: slot.holder.pop(slot.at)), limits
             if isinstance(slot.value, list) and slot.key.sort != "three":
+                if len(slot.value) > 1:
+                    yield changed(script, number, at, leave_all), limits
                 for item in range(len(slot.value)):
                     yield changed(script, number, at, functools.partial(leave_item, item)), limits
+
+    def mended(self, candidates: Iterator[tuple[list[dict[str, Any]], Any]]) -> Iterator[tuple[list[dict[str, Any]], Any]]:
+        """Some scripts, and each also without what could not be made in it, and what names that; what ends an encoder stays."""
+        for script, limits in candidates:
+            yield script, limits
+            answered = self.core.answered(Flat(script, limits))
+            if answered is not None:
+                refused = {number for number, entry in answered.entry_of.items() if entry.fault is not None}
+                gone = {number for number in refused if "as" in answered.whole[number] and "on" not in answered.whole[number]}
+                if gone:
+                    yield shape.without(answered.flat.calls, gone), limits
+
+    def fewer_items(self) -> Iterator[tuple[list[dict[str, Any]], Any]]:
+        """Scripts of which two lists of one length lack the item of one place, as what a pass draws to and what its pipeline does."""
+        script, limits = self.best.flat.calls, self.best.flat.limits
+        lists = [
+            (number, at, len(slot.value))
+            for number, call in enumerate(script)
+            for at, slot in enumerate(shape.slots(call))
+            if isinstance(slot.value, list) and slot.key.sort != "three"
+        ]
+        for (one, at, length), (other, there, others) in itertools.combinations(lists[:MOST_LISTS], 2):
+            for item in range(length) if length == others and one != other else ():
+                leave = functools.partial(leave_item, item)
+                yield changed(changed(script, one, at, leave), other, there, leave), limits
 
     def plainer_values(self, number: int) -> Iterator[tuple[list[dict[str, Any]], Any]]:
         """Scripts of which a call has one number that is rounder, or one word that stands before it in its row."""
@@ -119,6 +163,10 @@ class Smaller:
 
 def leave_item(item: int, slot: shape.Slot) -> None:
     slot.value.pop(item)
+
+
+def leave_all(slot: shape.Slot) -> None:
+    slot.value.clear()
 
 
 def put(value: Any, slot: shape.Slot) -> None:
@@ -134,7 +182,7 @@ def plainer(slot: shape.Slot) -> list[Any]:
     if slot.key.sort == "word" and slot.value is not None:
         words = calls.WORDS[slot.key.detail]
         return words[: words.index(slot.value)]
-    return []
+    return [calls.AUTO] if slot.key.may_be_auto and slot.value != calls.AUTO else []
 
 
 def changed(script: list[dict[str, Any]], number: int, at: int, change: Callable[[shape.Slot], Any]) -> list[dict[str, Any]]:
@@ -173,7 +221,7 @@ def weight(slot: shape.Slot) -> int:
         return 64 * slot.value.bit_length() + 8 * bin(slot.value).count("1") + min(slot.value, 7)
     if slot.key.sort == "word" and slot.value is not None:
         return calls.WORDS[slot.key.detail].index(slot.value)
-    return 1 if slot.value else 0
+    return 1 if slot.value and not (slot.key.may_be_auto and slot.value == calls.AUTO) else 0
 
 
 def renamed(script: list[dict[str, Any]]) -> list[dict[str, Any]]:

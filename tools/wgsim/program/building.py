@@ -55,13 +55,13 @@ def is_built() -> bool:
         return False
 
 
-def jobs() -> int:
-    """How many crates to prove side by side: as many as processors and memory allow."""
-    free = 2 * MEMORY
+def jobs(memory: int = MEMORY) -> int:
+    """How many crates to prove side by side, or processes to run of which each takes some kB: as many as processors and memory allow."""
+    free = 2 * memory
     for line in pathlib.Path("/proc/meminfo").read_text(encoding="utf-8").splitlines():
         if line.startswith("MemAvailable:"):
             free = int(line.split()[1])
-    return max(1, min(len(os.sched_getaffinity(0)), free // MEMORY))
+    return max(1, min(len(os.sched_getaffinity(0)), free // memory))
 
 
 def clock(since: float) -> str:

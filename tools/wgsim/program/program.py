@@ -25,11 +25,11 @@ class Program:
     """A program that can be asked about scripts. `said` tells what it is, for those who read its answers.
 
     It is the proved one where that is built from the sources as they are, and else, or where that is asked for, the one that is compiled
-    without proofs, of which one line on standard error says so."""
+    without proofs, of which one line on standard error says so, unless it is told elsewhere."""
 
     plays = True
 
-    def __init__(self, is_unproved: bool) -> None:
+    def __init__(self, is_unproved: bool, is_told: bool = True) -> None:
         named = os.environ.get(NAMED)
         self.is_unproved = not named and (is_unproved or not building.is_built())
         self.answers = {}
@@ -40,7 +40,7 @@ class Program:
         else:
             self.path, self.said = building.PROGRAM, "the proved program"
         self.is_ready = not self.is_unproved or unproved.is_kept()
-        if self.is_unproved:
+        if self.is_unproved and is_told:
             self.warn(is_unproved)
 
     def warn(self, is_asked_for: bool) -> None:
