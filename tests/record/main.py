@@ -10,10 +10,12 @@ is said. Without --program the program is compiled without its proofs. Prints a 
 
 import base64
 import contextlib
+import html
 import json
 import os
 import pathlib
 import re
+import resource
 import shutil
 import subprocess
 import sys
@@ -272,7 +274,7 @@ def test_stand_ins(folder):
 
 
 def test_mistakes(folder):
-    """Four samples make no fault; with a mistake, each of the table, `explain` tells its rule and its cause, at the line of the page that
+    """Ten samples make no fault; with a mistake, each of the table, `explain` tells its rule and its cause, at the line of the page that
     makes the call."""
     one_file, asked = folder / whole_text.NAME, programs.Program(False)
     one_file.write_text(wgsim("record", "--one-file")[0], encoding="utf-8")
@@ -401,6 +403,42 @@ def test_browser_errors():
         text.count(again) == 2 and f"{again}; it comes again at entries 33, 47\n" in text and len(heads) == 4,
         f"explain of outside does not tell once what comes in each frame: {heads}",
     )
+
+
+# Words of the pictures of recordings: faults by the lines of the page, what only follows, and the browser's own errors.
+PICTURED = {
+    "resize": (
+        "Fault at resize.html:21:32 in frame (line 28 of the script): finish breaks rule 305",
+        'in the page "v3" comes from resize.html:17:43 in frame',
+        "is number 1 of 4, at resize.html:15:24 in frame (line 24 of the script):",
+        "<li class='follows'><p>resize.html:21:16 in frame (line 29 of the script): submit only follows from resize.html:21:32 in frame",
+        "<small>operation 1</small><small>resize.html:15:24 in frame</small>",
+    ),
+    "outside": (
+        "The browser made 9 errors where no rule of this core is broken.",
+        "Browser's error at outside.html:18:23: createShaderModule",
+        "this is the first of 3 times at this place of the page; it comes again at entries 33, 47",
+        "Browser's error at outside.html:44:34 in frame (line 32 of the script): finish</b> <small>the first of 3 times</small>",
+        "outside.html:19:8 (line 11 of the script): createComputePipeline only follows: the browser",
+    ),
+}
+# What a picture of a page of three frames may take of a processor, in seconds.
+SOON = 5
+
+
+def test_pictures():
+    """Pictures of recordings tell faults and errors by the page's lines, and are there soon."""
+    for name, words in PICTURED.items():
+        before = resource.getrusage(resource.RUSAGE_CHILDREN)
+        page = html.unescape(wgsim("picture", KEPT / f"{name}.json")[0])
+        after = resource.getrusage(resource.RUSAGE_CHILDREN)
+        took = after.ru_utime + after.ru_stime - before.ru_utime - before.ru_stime
+        check(took < SOON, f"picture of {name}: it takes {took:.1f} seconds of a processor")
+        for each in words:
+            check(each in page, f"picture of {name}: `{each}` is not told")
+        heads = [page.find("Browser's error at outside.html:18:23"), page.find("<b>Fault at"), page.find("class='legend'")]
+        is_first = heads[1] < heads[2] and (name != "outside" or heads[0] < heads[1])
+        check(is_first, f"picture of {name}: what comes first is not first: {heads}")
 
 
 # What a browser may say at a call of a recording that used something that no script says, and what `judge` then tells: the call, what was
@@ -661,6 +699,7 @@ def main():
             (test_judged, ()),
             (test_places, ()),
             (test_browser_errors, ()),
+            (test_pictures, ()),
             (test_changed, (folder / "changed",)),
             (test_excused, (folder / "excused",)),
             (test_told_first, (folder / "first",)),

@@ -91,6 +91,14 @@ def found(text: Text, data: bytes, said: str) -> list[BrowserError]:
     return errors if any(not error.follows for error in errors) else []
 
 
+def alike(errors: list[BrowserError]) -> list[list[BrowserError]]:
+    """Errors together that come at the same place of the page with the same words. The first of each comes first."""
+    groups: dict[Any, list[BrowserError]] = {}
+    for error in errors:
+        groups.setdefault((error.page, error.word, error.message) if error.page else error, []).append(error)
+    return list(groups.values())
+
+
 def head(errors: list[BrowserError]) -> list[str]:
     """How many there are, in a line or none."""
     return [f"the browser made {count(len(errors), 'error')} where no rule of this core is broken"] if errors else []
