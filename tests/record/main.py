@@ -24,6 +24,8 @@ import time
 import urllib.parse
 import urllib.request
 
+import by_firefox
+
 from wgsim import exit_status
 from wgsim.matching import compared, fault_objects
 from wgsim.program import program as programs
@@ -384,7 +386,10 @@ def test_browser_errors():
         "no rule of this core is broken: it does not look into shaders. ",
         f"BROWSER'S ERROR at call 7: {KEPT}/outside.json:9:1\n",
         "    the browser (validation, uncaptured): LOD min clamp (2.000000) is larger than the max clamp (1.000000).\n",
-        "    no rule of this core is broken: it used the levels of detail of a sampler, and that may be why\n",
+        (
+            "    no rule of this core is broken: it used the levels of detail of a sampler, and that may be why. Look at that there: the"
+            " browser's words say what it wants.\n"
+        ),
         "follows from an earlier error: call 9: ",
         "follows from an earlier error: call 31: ",
     )
@@ -403,6 +408,30 @@ def test_browser_errors():
         text.count(again) == 2 and f"{again}; it comes again at entries 33, 47\n" in text and len(heads) == 4,
         f"explain of outside does not tell once what comes in each frame: {heads}",
     )
+
+
+def test_passed_errors(folder):
+    """An error of a call that the script does not have is told, and where it only follows from another, in short."""
+    for kept in KEPT.glob("outside.*"):
+        (folder / kept.name).write_bytes(kept.read_bytes())
+    path = folder / "outside.answers.json"
+    answers = json.loads(path.read_text(encoding="utf-8"))
+    passed = {"before": 20, "outside": "shader text", "detail": "no text", "at": "outside.html:25:1"}
+    passed.update(error="validation", caught="uncaptured")
+    for word, message in (
+        ("createRenderPipeline", "No such thing."),
+        ("getBindGroupLayout", "[Invalid RenderPipeline (unlabeled)] is invalid due to a previous error."),
+        ("createBindGroup", "BindGroupLayout with '' label is invalid"),
+    ):
+        answers["passed"].append({**passed, "do": word, "message": message})
+    path.write_text(json.dumps(answers), encoding="utf-8")
+    text = wgsim("explain", folder / "outside.json", status=1)[0]
+    for words in (
+        "BROWSER'S ERROR before call 20: createRenderPipeline\n",
+        "follows from an earlier error: call 20: getBindGroupLayout: the browser: [Invalid RenderPipeline",
+        "follows from an earlier error: call 20: createBindGroup: the browser: BindGroupLayout with",
+    ):
+        check(words in text, f"explain of errors of calls that no script has does not say `{words}`:\n{text[:3000]}")
 
 
 # Words of the pictures of recordings: faults by the lines of the page, what only follows, and the browser's own errors.
@@ -700,11 +729,13 @@ def main():
             (test_places, ()),
             (test_browser_errors, ()),
             (test_pictures, ()),
+            (test_passed_errors, (folder / "passed",)),
             (test_changed, (folder / "changed",)),
             (test_excused, (folder / "excused",)),
             (test_told_first, (folder / "first",)),
             (test_no_browser, ()),
             (test_saved, (folder / "saved",)),
+            (by_firefox.test_fake, (folder / "fake", check, wgsim)),
         ]
         by_node = (
             (test_null, "null"), (test_frames, "frames"), (test_source_maps, "maps"), (test_workers, "workers"), (test_stand_ins, "images"),
@@ -712,8 +743,10 @@ def main():
         )
         tests += [(test_wgsl, ()), *((test, (folder / name,)) for test, name in by_node)] if NODE else []
         tests += [(test_browser, (folder / "browser",))] if path else []
+        of_firefox = (folder / "firefox", check, wgsim, verdicts, brief, EXPECTED, IN_PAGES)
+        tests += [(by_firefox.test_real, of_firefox)] if by_firefox.PATH else []
         for test, given in tests:
-            for each in given:
+            for each in given[:1]:
                 each.mkdir()
             test(*given)
     for finding in findings:
@@ -725,6 +758,8 @@ def main():
             f"tests of the recorder: the pages were not recorded in a browser, SKIPPED, since none of {', '.join(browser.NAMES)} is"
             " installed"
         )
+    if not by_firefox.PATH:
+        print("tests of the recorder: no page was recorded in Firefox, SKIPPED, since none is installed")
     print(f"tests of the recorder: {len(findings)} findings")
     return 1 if findings else 0
 

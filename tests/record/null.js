@@ -32,7 +32,7 @@ const BITS = {
 
 const world = {
   console: { error() {}, warn() {}, log() {} }, performance, setTimeout, setInterval, clearInterval, queueMicrotask, DOMException, addEventListener() {},
-  location: { href: 'http://127.0.0.1/null.html', pathname: '/null.html' },
+  location: { href: 'http://127.0.0.1/null.html', pathname: '/null.html' }, ImageData: class {},
 };
 // Each update has a time of its own, however long the machine takes.
 let time = 0, waiting = [];

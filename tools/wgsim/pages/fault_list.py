@@ -107,7 +107,7 @@ class Faults:
         if error.follows:
             return f"<li class='follows'><p>{where}: {escape(error.word)} only follows: {escape(quoted[0])}{often}</p></li>\n"
         lines = [f"<p class='fault'><b>Browser's error at {where}: {escape(error.word)}</b>{small_in(often.lstrip(', '))}</p>"]
-        lines += [f"<pre>{escape(chr(10).join(quoted))}</pre>", *[f"<p>{escape(error.why)}</p>"] * bool(error.why)]
+        lines += [f"<pre>{escape(chr(10).join(quoted))}</pre>", *[f"<p>{escape(error.reason())}</p>"] * bool(error.reason())]
         return f"<li>{''.join(lines + (self.called(error.call) if error.call is not None else []))}</li>\n"
 
     def loss(self) -> list[str]:

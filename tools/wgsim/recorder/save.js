@@ -50,7 +50,7 @@ async function recordingsTold(why) {
 }
 async function told(why = asked.why) {
   const [own, others] = await Promise.all([recordingsTold(why), ofWorkers(why)]);
-  return JSON.stringify({ form: 1, page: location.href, browser: navigator.userAgent, recordings: [...own, ...others] });
+  return JSON.stringify({ form: 1, page: location.href, browser: navigator.userAgent, ...lacks ? { lacks } : {}, recordings: [...own, ...others] });
 }
 
 // Ends the recording, and saves it as a file, of which `./wgsim record --saved FILE` makes a folder.
@@ -70,7 +70,7 @@ function noteFaultsOfThePage() {
 // Where the tool opened the page: hands the recording over when nothing more comes, or when its time is up.
 function handOver(hand) {
   const begun = performance.now(), timer = setInterval(() => {
-    const isQuiet = isAllQuiet();
+    const isQuiet = !!lacks || isAllQuiet();
     if (!isQuiet && performance.now() - begun <= asked.seconds * 1000) return;
     clearInterval(timer);
     told(isQuiet ? 'the page asked for nothing more' : `${asked.seconds} seconds were over`).then(hand);
@@ -81,8 +81,11 @@ function handOver(hand) {
 const element = globalThis.document && document.currentScript;
 const asked = { frames: Number(element && element.dataset && element.dataset.frames) || Infinity, why: 'it was saved', ...globalThis.wgsimRecordAsked };
 
+// A page that is not secure has no WebGPU in any browser.
+const lacks = globalThis.navigator && navigator.gpu ? null : globalThis.isSecureContext === false ? 'a secure address' : 'WebGPU';
+
 globalThis.wgsimRecord = { save, text: told };
-if (globalThis.navigator && navigator.gpu) {
+if (!lacks) {
   wrapCalls();
   wrapDevices();
   wrapScopes();
