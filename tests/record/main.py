@@ -3,6 +3,7 @@
 usage: tests/record/run [--program PATH]      all tests
        tests/record/run --slowdown            how much the recorder slows a page of 10,000 calls, in Chromium
        tests/record/run --keep                records all pages in Chromium, and keeps that in tests/record/recordings
+       tests/record/run --mistakes [PAGE ..]  records the samples with their mistakes in Chromium
 
 Recordings are kept, so that `judge` is tested without a browser. Where node is installed, all pages are played by it under the recorder,
 with a WebGPU that does nothing; where Chromium is installed, they are recorded and judged anew. What is not installed is skipped, and that
@@ -24,6 +25,7 @@ import time
 import urllib.parse
 import urllib.request
 
+import by_chromium
 import by_firefox
 
 from wgsim import exit_status
@@ -303,6 +305,27 @@ def test_mistakes(folder):
         line = page.read_text(encoding="utf-8").splitlines()[int(place.split(":")[1]) - 1]
         is_told = found["rule"] == row["rule"] and row["says"] in found["condition"] and row["call"] in line and found["remedy"]
         check(is_told, f"samples: {row['page']} with {row['is']!r} for {row['was']!r}: {found}, at `{line}`")
+
+
+SILENT = """<script type="module">
+const device = await (await navigator.gpu.requestAdapter()).requestDevice();
+device.createBuffer({ size: 16, usage: GPUBufferUsage.COPY_DST });
+globalThis.silent = true;
+device.createBuffer({ size: 16, usage: 0 });
+</script>"""
+
+
+def test_unanswered(folder):
+    """A call to which the browser had no answer when the recording ended is told as such, and not as one that it takes."""
+    one_file, page, saved = folder / whole_text.NAME, folder / "null.html", folder / "null.recording.json"
+    one_file.write_text(wgsim("record", "--one-file")[0], encoding="utf-8")
+    page.write_text(SILENT, encoding="utf-8")
+    saved.write_bytes(played(page, one_file))
+    told = wgsim("record", "--saved", "--out", folder / "out", saved)[0]
+    check("to 1 of them the browser had no answer when it ended" in told, f"record of a browser that does not answer: {told}")
+    told = wgsim("judge", folder / "out")[0]
+    for words in ("null.json: outside (", "browser does not answer (the browser had not answered when the recording ended)"):
+        check(words in told, f"judge of a browser that does not answer does not say `{words}`: {told}")
 
 
 # Pages that present one frame and go on, each with how many frames are asked for, and why its recording has to end.
@@ -713,6 +736,11 @@ def keep(path):
 
 def main():
     words, path = sys.argv[1:], browser.found(None)
+    if words[:1] == ["--mistakes"]:
+        with tempfile.TemporaryDirectory(prefix="mistakes-") as room:
+            by_chromium.test_mistakes(pathlib.Path(room), check, wgsim, verdicts, words[1:])
+        print("\n".join(findings))
+        return 1 if findings else 0
     if words[:1] in (["--slowdown"], ["--keep"]):
         {"--slowdown": slowdown, "--keep": keep}[words[0]](path)
         return 1 if findings else 0
@@ -739,7 +767,7 @@ def main():
         ]
         by_node = (
             (test_null, "null"), (test_frames, "frames"), (test_source_maps, "maps"), (test_workers, "workers"), (test_stand_ins, "images"),
-            (test_mistakes, "mistakes"),
+            (test_unanswered, "unanswered"), (test_mistakes, "mistakes"),
         )
         tests += [(test_wgsl, ()), *((test, (folder / name,)) for test, name in by_node)] if NODE else []
         tests += [(test_browser, (folder / "browser",))] if path else []

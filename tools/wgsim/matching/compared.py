@@ -153,6 +153,8 @@ class Compared:
         self, call: Call, fault: Fault | None, answer: Answer, settled: tuple[str | None, str] | None = None
     ) -> tuple[str, str | None]:
         """Why two answers differ, in `settled` how they settle a promise, as far as that is known: the verdict and its words."""
+        if answer.get("unanswered"):
+            return OUTSIDE, "the browser had not answered when the recording ended"
         if self.names(call) & self.tainted:
             return FOLLOWS, "it names what came of an earlier difference"
         for row in TABLE["known"]:
@@ -264,7 +266,7 @@ def browser_of(answer: Answer) -> str:
     if "throws" in answer:
         return f"throws {answer['throws']}"
     if "error" not in answer:
-        return "takes it"
+        return "does not answer" if answer.get("unanswered") else "takes it"
     lines = [line.strip(" -") for line in answer["message"].splitlines() if line.strip()]
     return f"refuses it ({answer['error']}, {answer['caught']}): {lines[0] if lines else 'it says nothing'}"
 

@@ -1,6 +1,7 @@
 // The end of a recording: what was noted is put into one text, which the tool takes over, or which is saved as a file.
 
 const LONGEST = 3000;                  // how long promises of the page are waited for at the end, in milliseconds
+const patience = () => Math.max(LONGEST, asked.patience || 0);   // and the browser's answers, which may come late where it has much to do
 const OWN = /wgsim-record\.js$/;
 const IN_WORDS = [/^\s*at (?:async )?(?:(.*?) \()?((?:\w+:|<).*?):(\d+):(\d+)\)?$/, /^(.*?)@(.+?):(\d+):(\d+)$/];
 
@@ -22,10 +23,13 @@ function placed(error) {
   return at === undefined ? {} : by.length ? { at, by } : { at };
 }
 
+// Waits until some promises are settled, or some milliseconds are over.
+const within = (time, list) => Promise.race([new Promise(done => setTimeout(done, time)), Promise.all(list.map(promise => promise.catch(() => {})))]);
+
 async function toldOf(recording) {
   recording.end(asked.why);
-  const held = [...recording.errors, ...recording.promises].map(promise => promise.catch(() => {}));
-  await Promise.race([new Promise(done => setTimeout(done, LONGEST)), Promise.all(held)]);
+  // Our own scopes are answered in the end, and promises of the page may never be settled.
+  await Promise.all([within(patience(), [...recording.errors]), within(LONGEST, [...recording.promises])]);
   const found = recording.numbered(), at = found.map(each => each.n);
   const before = n => { const next = at.findIndex(each => each >= n); return next < 0 ? at.length : next; };
   const script = { budget: 2 ** 53 - 1, phases: [[found.map(each => each.call)]] };

@@ -23,8 +23,9 @@ from wgsim import exit_status
 from wgsim.recorder import browser, firefox, source_maps, whole_text
 
 FRAMES, SECONDS, IDLE = 3, 30, 1000
-# What a browser takes to start and to hand over what was recorded, in seconds.
-BESIDE = 45
+# How long a browser's answers are waited for at the end, in milliseconds; and what it takes to start and to hand over what was recorded, in
+# seconds.
+PATIENCE, BESIDE = 30000, 75
 HAND = "wgsimRecordHand"
 # Why nothing was recorded, by what the recorder found no WebGPU without.
 WHY_NONE = {
@@ -191,7 +192,7 @@ def profile() -> Iterator[str]:
 
 def recorded(page: str, named: str | None, frames: int = FRAMES, seconds: int = SECONDS) -> dict[str, Any]:
     """What a browser recorded of a page. A page that cannot be had is told before a browser is looked for."""
-    asked = {"frames": frames, "seconds": seconds, "idle": IDLE, "hand": HAND}
+    asked = {"frames": frames, "seconds": seconds, "idle": IDLE, "patience": PATIENCE, "hand": HAND}
     with profile() as folder, served(page) as address:
         path = browser.found(named)
         if path is None:
@@ -326,8 +327,10 @@ def told(found: dict[str, Any], written: list[tuple[pathlib.Path, dict[str, Any]
     for path, one in written:
         errors = sum("error" in answer or "throws" in answer for answer in one["answers"])
         passed = f", and {len(one['passed'])} that a script cannot say" if one["passed"] else ""
+        unanswered = sum("unanswered" in answer for answer in one["answers"])
+        late = f"; to {unanswered} of them the browser had no answer when it ended" if unanswered else ""
         lines.append(
-            f"{path}: {len(one['calls'])} calls{passed}; {errors} of them made an error in the browser; it ended because:"
+            f"{path}: {len(one['calls'])} calls{passed}; {errors} of them made an error in the browser{late}; it ended because:"
             f" {one['ended']['why']}"
         )
     if not written:
