@@ -1,8 +1,9 @@
 // Opens each picture in a frame of each width, looks at it, uses its filters and folds, and posts what was found. The list of pictures comes from the
-// server: name, the counts of the report, and what each is to have.
+// server: name, the counts of the report, and what each is to have; `faults` is how many are shown at once, or null where that is not known.
 "use strict";
 const found = [];
 const WIDTHS = [800, 1200, 2000];
+const USUAL = [1280, 800];
 const frame = document.createElement("iframe");
 document.body.append(frame);
 
@@ -34,8 +35,18 @@ async function opened(picture, width) {
   return frame.contentWindow;
 }
 
+// Where there is a fault, what it is about stands whole in a window of a usual size, before anything is moved.
+function firstFault(picture, window) {
+  const faults = shown(window, ".faults > li");
+  need(picture, picture.faults === null || faults.length === picture.faults, `${faults.length} faults are shown at once, and not ${picture.faults}`);
+  const first = faults.find((item) => !item.matches(".follows"));
+  const { left, right, bottom } = first ? first.getBoundingClientRect() : { left: 0, right: 0, bottom: 0 };
+  need(picture, left >= 0 && right <= USUAL[0] && bottom <= USUAL[1], `the first fault is not in view: it ends at ${Math.round(bottom)} of ${USUAL[1]}`);
+}
+
 async function atAllWidths(picture) {
-  const window = await opened(picture, WIDTHS[0]);
+  const window = await opened(picture, USUAL[0]);
+  firstFault(picture, window);
   picture.isDrawn = window.document.querySelector("main") !== null;
   for (const width of WIDTHS) {
     frame.style.width = `${width}px`;

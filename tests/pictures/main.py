@@ -1,7 +1,8 @@
-"""Looks at pictures in headless Chromium: of each example, and of a script of some thousand steps.
+"""Looks at pictures in headless Chromium: of each example, of pages that were recorded, and of a script of some thousand steps.
 
 Each picture is opened in windows of 800, 1,200 and 2,000 pixels. No two texts and no two boxes of it may overlap, each
-barrier stands in the column of its step, all that the report has is shown, and the filters and folds do what they say.
+barrier stands in the column of its step, all that the report has is shown, the first fault is in view in a window of 1,280
+by 800, and the filters and folds do what they say.
 With --shots each picture is also written to FOLDER as a PNG file of each width, for the eye. Without --program the
 program is the unproved one. Where no Chromium is installed nothing is looked at, and that is said. Prints a line for
 each finding, and fails if there is one.
@@ -37,6 +38,8 @@ FLAGS = ("--headless", "--no-sandbox", "--disable-gpu", "--disable-dev-shm-usage
 WIDTHS = (800, 1200, 2000)
 # The pictures of which the filters are tried, and the rounds of the long script.
 FILTERED = {"first-frame", "compute-pass", "long"}
+# Recordings of pages, each with how many faults are shown: what comes in each frame once, and what only follows in short.
+RECORDED = {"resize": 2, "outside": 6, "canvases": 1}
 ROUNDS = 600
 # What a look at all pictures takes at most, in seconds.
 LONGEST = 600
@@ -45,27 +48,29 @@ DRIVER = "<!DOCTYPE html><meta charset='utf-8'><title>driver</title><body><scrip
 
 
 class Picture:
-    """A picture, with the counts of the report that it is of."""
+    """A picture, with the counts of the report that it is of, and how many faults it shows at once, where that is known."""
 
-    def __init__(self, name, page, counts):
-        self.name, self.page, self.counts = name, page, counts
+    def __init__(self, name, page, counts, faults):
+        self.name, self.page, self.counts, self.faults = name, page, counts, faults
 
 
-def drawn(name, data, program):
-    """The picture of a script, and the counts of its report."""
-    page, status = picture.picture(places.Text(data, name), data, program)
+def drawn(name, path, data, program, faults=None):
+    """The picture of a script, which lies at a path, and the counts of its report."""
+    page, status = picture.picture(places.Text(data, path), data, program)
     counts = reports.Report(program.ask(data)[1].decode("utf-8")).counts() if status == 0 else {}
-    return Picture(name, page.encode("utf-8"), counts)
+    return Picture(name, page.encode("utf-8"), counts, faults)
 
 
 def pictures(named):
-    """The pictures to look at: of each example, and of the long script."""
+    """The pictures to look at: of each example, of the pages that were recorded, and of the long script."""
     if named:
         os.environ[programs.NAMED] = str(pathlib.Path(named).resolve())
     program = programs.Program(not named)
     scripts = {path.stem: path.read_bytes() for path in sorted((TOP / "examples").glob("*.json"))}
     scripts["long"] = long.script(ROUNDS).encode("utf-8")
-    return [drawn(name, data, program) for name, data in scripts.items()]
+    shown = [drawn(name, name, data, program) for name, data in scripts.items()]
+    recorded = [(TOP / f"tests/record/recordings/{name}.json", faults) for name, faults in RECORDED.items()]
+    return shown + [drawn(f"page-{path.stem}", str(path), path.read_bytes(), program, faults) for path, faults in recorded]
 
 
 class Server(http.server.ThreadingHTTPServer):
@@ -79,7 +84,12 @@ class Server(http.server.ThreadingHTTPServer):
         for name in ("look.js", "drive.js"):
             self.texts[f"/{name}"] = ((PARTS / name).read_bytes(), "text/javascript")
         self.texts["/list"] = (
-            json.dumps([{"name": each.name, "counts": each.counts, "isFiltered": each.name in FILTERED} for each in shown]).encode(),
+            json.dumps(
+                [
+                    {"name": each.name, "counts": each.counts, "faults": each.faults, "isFiltered": each.name in FILTERED}
+                    for each in shown
+                ]
+            ).encode(),
             "application/json",
         )
         for each in shown:

@@ -3,6 +3,7 @@
 usage: tests/record/run [--program PATH]      all tests
        tests/record/run --slowdown            how much the recorder slows a page of 10,000 calls, in Chromium
        tests/record/run --keep                records all pages in Chromium, and keeps that in tests/record/recordings
+       tests/record/run --mistakes [PAGE ..]  records the samples with their mistakes in Chromium
 
 Recordings are kept, so that `judge` is tested without a browser. Where node is installed, all pages are played by it under the recorder,
 with a WebGPU that does nothing; where Chromium is installed, they are recorded and judged anew. What is not installed is skipped, and that
@@ -10,10 +11,12 @@ is said. Without --program the program is compiled without its proofs. Prints a 
 
 import base64
 import contextlib
+import html
 import json
 import os
 import pathlib
 import re
+import resource
 import shutil
 import subprocess
 import sys
@@ -21,6 +24,9 @@ import tempfile
 import time
 import urllib.parse
 import urllib.request
+
+import by_chromium
+import by_firefox
 
 from wgsim import exit_status
 from wgsim.matching import compared, fault_objects
@@ -272,7 +278,7 @@ def test_stand_ins(folder):
 
 
 def test_mistakes(folder):
-    """Four samples make no fault; with a mistake, each of the table, `explain` tells its rule and its cause, at the line of the page that
+    """Ten samples make no fault; with a mistake, each of the table, `explain` tells its rule and its cause, at the line of the page that
     makes the call."""
     one_file, asked = folder / whole_text.NAME, programs.Program(False)
     one_file.write_text(wgsim("record", "--one-file")[0], encoding="utf-8")
@@ -299,6 +305,27 @@ def test_mistakes(folder):
         line = page.read_text(encoding="utf-8").splitlines()[int(place.split(":")[1]) - 1]
         is_told = found["rule"] == row["rule"] and row["says"] in found["condition"] and row["call"] in line and found["remedy"]
         check(is_told, f"samples: {row['page']} with {row['is']!r} for {row['was']!r}: {found}, at `{line}`")
+
+
+SILENT = """<script type="module">
+const device = await (await navigator.gpu.requestAdapter()).requestDevice();
+device.createBuffer({ size: 16, usage: GPUBufferUsage.COPY_DST });
+globalThis.silent = true;
+device.createBuffer({ size: 16, usage: 0 });
+</script>"""
+
+
+def test_unanswered(folder):
+    """A call to which the browser had no answer when the recording ended is told as such, and not as one that it takes."""
+    one_file, page, saved = folder / whole_text.NAME, folder / "null.html", folder / "null.recording.json"
+    one_file.write_text(wgsim("record", "--one-file")[0], encoding="utf-8")
+    page.write_text(SILENT, encoding="utf-8")
+    saved.write_bytes(played(page, one_file))
+    told = wgsim("record", "--saved", "--out", folder / "out", saved)[0]
+    check("to 1 of them the browser had no answer when it ended" in told, f"record of a browser that does not answer: {told}")
+    told = wgsim("judge", folder / "out")[0]
+    for words in ("null.json: outside (", "browser does not answer (the browser had not answered when the recording ended)"):
+        check(words in told, f"judge of a browser that does not answer does not say `{words}`: {told}")
 
 
 # Pages that present one frame and go on, each with how many frames are asked for, and why its recording has to end.
@@ -382,7 +409,10 @@ def test_browser_errors():
         "no rule of this core is broken: it does not look into shaders. ",
         f"BROWSER'S ERROR at call 7: {KEPT}/outside.json:9:1\n",
         "    the browser (validation, uncaptured): LOD min clamp (2.000000) is larger than the max clamp (1.000000).\n",
-        "    no rule of this core is broken: it used the levels of detail of a sampler, and that may be why\n",
+        (
+            "    no rule of this core is broken: it used the levels of detail of a sampler, and that may be why. Look at that there: the"
+            " browser's words say what it wants.\n"
+        ),
         "follows from an earlier error: call 9: ",
         "follows from an earlier error: call 31: ",
     )
@@ -401,6 +431,66 @@ def test_browser_errors():
         text.count(again) == 2 and f"{again}; it comes again at entries 33, 47\n" in text and len(heads) == 4,
         f"explain of outside does not tell once what comes in each frame: {heads}",
     )
+
+
+def test_passed_errors(folder):
+    """An error of a call that the script does not have is told, and where it only follows from another, in short."""
+    for kept in KEPT.glob("outside.*"):
+        (folder / kept.name).write_bytes(kept.read_bytes())
+    path = folder / "outside.answers.json"
+    answers = json.loads(path.read_text(encoding="utf-8"))
+    passed = {"before": 20, "outside": "shader text", "detail": "no text", "at": "outside.html:25:1"}
+    passed.update(error="validation", caught="uncaptured")
+    for word, message in (
+        ("createRenderPipeline", "No such thing."),
+        ("getBindGroupLayout", "[Invalid RenderPipeline (unlabeled)] is invalid due to a previous error."),
+        ("createBindGroup", "BindGroupLayout with '' label is invalid"),
+    ):
+        answers["passed"].append({**passed, "do": word, "message": message})
+    path.write_text(json.dumps(answers), encoding="utf-8")
+    text = wgsim("explain", folder / "outside.json", status=1)[0]
+    for words in (
+        "BROWSER'S ERROR before call 20: createRenderPipeline\n",
+        "follows from an earlier error: call 20: getBindGroupLayout: the browser: [Invalid RenderPipeline",
+        "follows from an earlier error: call 20: createBindGroup: the browser: BindGroupLayout with",
+    ):
+        check(words in text, f"explain of errors of calls that no script has does not say `{words}`:\n{text[:3000]}")
+
+
+# Words of the pictures of recordings: faults by the lines of the page, what only follows, and the browser's own errors.
+PICTURED = {
+    "resize": (
+        "Fault at resize.html:21:32 in frame (line 28 of the script): finish breaks rule 305",
+        'in the page "v3" comes from resize.html:17:43 in frame',
+        "is number 1 of 4, at resize.html:15:24 in frame (line 24 of the script):",
+        "<li class='follows'><p>resize.html:21:16 in frame (line 29 of the script): submit only follows from resize.html:21:32 in frame",
+        "<small>operation 1</small><small>resize.html:15:24 in frame</small>",
+    ),
+    "outside": (
+        "The browser made 9 errors where no rule of this core is broken.",
+        "Browser's error at outside.html:18:23: createShaderModule",
+        "this is the first of 3 times at this place of the page; it comes again at entries 33, 47",
+        "Browser's error at outside.html:44:34 in frame (line 32 of the script): finish</b> <small>the first of 3 times</small>",
+        "outside.html:19:8 (line 11 of the script): createComputePipeline only follows: the browser",
+    ),
+}
+# What a picture of a page of three frames may take of a processor, in seconds.
+SOON = 5
+
+
+def test_pictures():
+    """Pictures of recordings tell faults and errors by the page's lines, and are there soon."""
+    for name, words in PICTURED.items():
+        before = resource.getrusage(resource.RUSAGE_CHILDREN)
+        page = html.unescape(wgsim("picture", KEPT / f"{name}.json")[0])
+        after = resource.getrusage(resource.RUSAGE_CHILDREN)
+        took = after.ru_utime + after.ru_stime - before.ru_utime - before.ru_stime
+        check(took < SOON, f"picture of {name}: it takes {took:.1f} seconds of a processor")
+        for each in words:
+            check(each in page, f"picture of {name}: `{each}` is not told")
+        heads = [page.find("Browser's error at outside.html:18:23"), page.find("<b>Fault at"), page.find("class='legend'")]
+        is_first = heads[1] < heads[2] and (name != "outside" or heads[0] < heads[1])
+        check(is_first, f"picture of {name}: what comes first is not first: {heads}")
 
 
 # What a browser may say at a call of a recording that used something that no script says, and what `judge` then tells: the call, what was
@@ -646,6 +736,11 @@ def keep(path):
 
 def main():
     words, path = sys.argv[1:], browser.found(None)
+    if words[:1] == ["--mistakes"]:
+        with tempfile.TemporaryDirectory(prefix="mistakes-") as room:
+            by_chromium.test_mistakes(pathlib.Path(room), check, wgsim, verdicts, words[1:])
+        print("\n".join(findings))
+        return 1 if findings else 0
     if words[:1] in (["--slowdown"], ["--keep"]):
         {"--slowdown": slowdown, "--keep": keep}[words[0]](path)
         return 1 if findings else 0
@@ -661,20 +756,25 @@ def main():
             (test_judged, ()),
             (test_places, ()),
             (test_browser_errors, ()),
+            (test_pictures, ()),
+            (test_passed_errors, (folder / "passed",)),
             (test_changed, (folder / "changed",)),
             (test_excused, (folder / "excused",)),
             (test_told_first, (folder / "first",)),
             (test_no_browser, ()),
             (test_saved, (folder / "saved",)),
+            (by_firefox.test_fake, (folder / "fake", check, wgsim)),
         ]
         by_node = (
             (test_null, "null"), (test_frames, "frames"), (test_source_maps, "maps"), (test_workers, "workers"), (test_stand_ins, "images"),
-            (test_mistakes, "mistakes"),
+            (test_unanswered, "unanswered"), (test_mistakes, "mistakes"),
         )
         tests += [(test_wgsl, ()), *((test, (folder / name,)) for test, name in by_node)] if NODE else []
         tests += [(test_browser, (folder / "browser",))] if path else []
+        of_firefox = (folder / "firefox", check, wgsim, verdicts, brief, EXPECTED, IN_PAGES)
+        tests += [(by_firefox.test_real, of_firefox)] if by_firefox.PATH else []
         for test, given in tests:
-            for each in given:
+            for each in given[:1]:
                 each.mkdir()
             test(*given)
     for finding in findings:
@@ -686,6 +786,8 @@ def main():
             f"tests of the recorder: the pages were not recorded in a browser, SKIPPED, since none of {', '.join(browser.NAMES)} is"
             " installed"
         )
+    if not by_firefox.PATH:
+        print("tests of the recorder: no page was recorded in Firefox, SKIPPED, since none is installed")
     print(f"tests of the recorder: {len(findings)} findings")
     return 1 if findings else 0
 

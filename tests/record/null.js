@@ -2,7 +2,7 @@
 //
 //     node null.js RECORDER PAGE.html [FRAMES]
 //
-// It refuses everything with a message while the page has put one into `refused`.
+// It refuses everything with a message while the page has put one into `refused`, and answers nothing while it has `silent`.
 // So the recorder is tested where there is no browser. Of the page its scripts alone are run: those that it loads, and the module in it.
 'use strict';
 const fs = require('fs'), path = require('path'), vm = require('vm'), threads = require('worker_threads');
@@ -32,7 +32,7 @@ const BITS = {
 
 const world = {
   console: { error() {}, warn() {}, log() {} }, performance, setTimeout, setInterval, clearInterval, queueMicrotask, DOMException, addEventListener() {},
-  location: { href: 'http://127.0.0.1/null.html', pathname: '/null.html' },
+  location: { href: 'http://127.0.0.1/null.html', pathname: '/null.html' }, ImageData: class {},
 };
 // Each update has a time of its own, however long the machine takes.
 let time = 0, waiting = [];
@@ -70,7 +70,7 @@ const GIVES = {
     if (size < 0) throw new TypeError('a size below 0');
     return Object.assign(new world.GPUBuffer(), { size, usage });
   },
-  popErrorScope: () => Promise.resolve(world.refused ? Object.assign(new world.GPUValidationError(), { message: world.refused }) : null), onSubmittedWorkDone: () => Promise.resolve(), mapAsync: () => Promise.resolve(),
+  popErrorScope: () => world.silent ? new Promise(() => {}) : Promise.resolve(world.refused ? Object.assign(new world.GPUValidationError(), { message: world.refused }) : null), onSubmittedWorkDone: () => Promise.resolve(), mapAsync: () => Promise.resolve(),
   getMappedRange() { return new ArrayBuffer(this.size); },
   getCurrentTexture() {
     const { width, height } = this.canvas;

@@ -76,7 +76,23 @@ def idle(case: Case) -> Cause | None:
     return busy(case, case.uses["buffer"])
 
 
-def busy(case: Case, buffer: Played, where: str = "") -> Cause | None:
+class Use:
+    """The command by which something is used, and what it names where that is another thing that holds it, as a bind group."""
+
+    def __init__(self, command: Played, holder: Played | None) -> None:
+        self.command, self.holder = command, holder
+
+
+def to_do(case: Case, thing: Played, use: Use | None) -> str:
+    """What to do about what was destroyed. Where a later command still uses what holds it, a destroy that comes later is no help."""
+    ending = case.play.call_of(case.play.destroyed_by[thing]).place
+    command = case.play.call_of(use.command).place if use is not None else ending
+    if use is None or use.holder is None or ending[:2] != command[:2] or ending[2] > command[2]:
+        return "Destroy it after its last use."
+    return f'Make "{use.holder.call["as"]}" anew, of what is there in its place, or destroy it after its last use.'
+
+
+def busy(case: Case, buffer: Played, where: str = "", use: Use | None = None) -> Cause | None:
     """A buffer is pending, mapped or destroyed: by which call, and what to do."""
     history, name, maps = case.history, f"{case.named(buffer)}{where}", case.second.maps
     values = {"object": buffer.call["as"]}
@@ -95,5 +111,5 @@ def busy(case: Case, buffer: Played, where: str = "") -> Cause | None:
         return Cause(said, {**values, "state": "mapped", "mode": mapping[0], "by": case.place(mapper)}, "Unmap it before.")
     if history.is_destroyed(buffer):
         by = case.place(case.play.destroyed_by[buffer])
-        return Cause(f"{name} was destroyed at {by}", {**values, "state": "destroyed", "by": by}, "Destroy it after its last use.")
+        return Cause(f"{name} was destroyed at {by}", {**values, "state": "destroyed", "by": by}, to_do(case, buffer, use))
     return None

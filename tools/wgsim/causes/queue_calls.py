@@ -6,7 +6,7 @@ from typing import TYPE_CHECKING
 
 from .layouts import twice
 from .making import Cause, first, fits, lacks, multiple, rule
-from .maps import busy
+from .maps import Use, busy, to_do
 
 if TYPE_CHECKING:
     from model.history import Played
@@ -87,16 +87,17 @@ def named_twice(case: Case) -> Cause | None:
     )
 
 
-def used(case: Case, *words: str) -> list[tuple[Played, str]]:
-    """What a submit uses that some calls made, each with words for the command through which it does."""
-    found = {}
+def used(case: Case, *words: str) -> list[tuple[Played, str, Use]]:
+    """What a submit uses that some calls made, each with words for the command through which it does, and that."""
+    found: dict[Played, tuple[str, Use]] = {}
     for commands in case.uses["buffers"]:
         for command in case.history.commands_of(commands):
             for _, thing in command.named():
                 for resource in case.second.history.resources_in(thing):
                     through = "" if thing is resource else f", through {case.named(thing)}" + in_bundle(case, thing, resource)
-                    found.setdefault(resource, f", which is used by the {command.do} at {case.place(command)}{through},")
-    return [(thing, by) for thing, by in found.items() if thing.do in words]
+                    said = f", which is used by the {command.do} at {case.place(command)}{through},"
+                    found.setdefault(resource, (said, Use(command, None if thing is resource else thing)))
+    return [(thing, said, use) for thing, (said, use) in found.items() if thing.do in words]
 
 
 def in_bundle(case: Case, bundle: Played, resource: Played) -> str:
@@ -110,22 +111,22 @@ def in_bundle(case: Case, bundle: Played, resource: Played) -> str:
 
 @rule(192)
 def buffers_at_rest(case: Case) -> Cause | None:
-    return first(busy(case, buffer, by) for buffer, by in used(case, "createBuffer"))
+    return first(busy(case, buffer, by, use) for buffer, by, use in used(case, "createBuffer"))
 
 
 @rule(193)
 def others_there(case: Case) -> Cause | None:
-    return first(gone(case, thing, by) for thing, by in used(case, "createTexture", "createQuerySet"))
+    return first(gone(case, thing, by, use) for thing, by, use in used(case, "createTexture", "createQuerySet"))
 
 
-def gone(case: Case, thing: Played, by: str = "") -> Cause | None:
+def gone(case: Case, thing: Played, by: str = "", use: Use | None = None) -> Cause | None:
     if not case.history.is_destroyed(thing):
         return None
     ending = case.play.call_of(case.play.destroyed_by[thing])
     at = case.place(case.play.destroyed_by[thing])
     values = {"object": thing.call["as"], "state": "destroyed", "by": at, "byCall": ending.word}
     if ending.frame is None:
-        return Cause(f"{case.named(thing)}{by} was destroyed at {at}", values, "Destroy it after its last use.")
+        return Cause(f"{case.named(thing)}{by} was destroyed at {at}", values, to_do(case, thing, use))
     canvas = ending.frame.canvas
     frame = f'frame {ending.frame.number} of "{canvas.name}" ({case.play.script.at(canvas.call)})'
     values.update(canvas=canvas.name, frame=ending.frame.number)

@@ -1,4 +1,4 @@
-"""Opens a page, a file or an address of this machine, in Chromium, and writes what it asks of WebGPU as a script NAME.json, with
+"""Opens a page, a file or an address of this machine, in Chromium or Firefox, and writes what it asks of WebGPU as a script NAME.json, with
 NAME.answers.json and NAME.calls.json.
 
 --saved writes these of a file that wgsimRecord.save() saved, and --one-file writes wgsim-record.js, the recorder for a page of any browser.
@@ -18,7 +18,7 @@ BY_PROGRAM = False
 
 def add_words(parser: argparse.ArgumentParser) -> None:
     parser.add_argument("--out", metavar="FOLDER", help="where the files are written; else here")
-    parser.add_argument("--browser", metavar="PATH", help="another browser than the Chromium that is installed")
+    parser.add_argument("--browser", metavar="PATH", help="another browser than the Chromium that is installed, as firefox")
     parser.add_argument("--frames", metavar="N", help="after how many frames it ends: 3")
     parser.add_argument("--seconds", metavar="N", help="after how many seconds it ends at most: 30")
     parser.add_argument("--saved", action="store_true", help="of a file that was saved")

@@ -18,10 +18,17 @@ OF_SHADERS = (
     " that fails too: mend this first."
 )
 WHY = {
-    compared.OUTSIDE: "no rule of this core is broken: {}, and that may be why",
-    compared.KNOWN: "no rule of this core is broken: the two are known to differ here, {}",
-    compared.DIFFERS: "no rule of this core is broken, and no reason for that is known: core and browser differ here",
+    compared.OUTSIDE: "no rule of this core is broken: {}, and that may be why.",
+    compared.KNOWN: "no rule of this core is broken: the two are known to differ here, {}.",
+    compared.DIFFERS: "no rule of this core is broken, and no reason for that is known: core and browser differ here.",
 }
+# What can be done about an error that the browser alone made.
+REMEDY = {
+    compared.OUTSIDE: "Look at that there: the browser's words say what it wants.",
+    compared.KNOWN: "Go by the browser's words: others may take it, and this one does not.",
+    compared.DIFFERS: "One of the two is wrong. Go by the browser's words for now, and keep the recording: it shows the difference.",
+}
+ENLARGE = "Make the buffer, or the range of it that is bound, as large as the browser says."
 
 
 class BrowserError:
@@ -32,14 +39,16 @@ class BrowserError:
         self.number, self.word, self.page, self.kind, self.message = number, word, page, kind, message.strip()
         self.call: Call | None = None
         self.why: str | None = OF_SHADERS
+        self.remedy: str | None = None
         self.is_first, self.follows = True, False
 
     def by(self, verdict: compared.Verdict) -> BrowserError:
         """The same with what `judge` says of its call."""
         self.call = verdict.call
         self.is_first = verdict.is_too_small()
-        self.follows = verdict.how == compared.FOLLOWS or "[Invalid ShaderModule" in self.message
+        self.follows = verdict.how == compared.FOLLOWS or compared.PREVIOUS.search(self.message) is not None
         self.why = WHY[verdict.how].format(verdict.why) if verdict.how in WHY else verdict.why
+        self.remedy = ENLARGE if self.is_first else REMEDY.get(verdict.how)
         return self
 
     def lines(self, script: Script, times: int = 1) -> list[str]:
@@ -54,7 +63,11 @@ class BrowserError:
         said = [f"    {script.said(self.call)}"] if self.call is not None else []
         head = f"BROWSER'S ERROR {where} call {self.number}{place}" + (f": {self.word}" if self.call is None else "")
         often = f"this is the first of {times} times at this place of the page" if times > 1 else ""
-        return ["", head, *said, *[f"    {line}" for line in (page, often, *self.quoted(), self.why) if line]]
+        return ["", head, *said, *[f"    {line}" for line in (page, often, *self.quoted(), self.reason()) if line]]
+
+    def reason(self) -> str:
+        """How it can be that no rule is broken, and what can be done."""
+        return " ".join(filter(None, (self.why, self.remedy)))
 
     def quoted(self) -> list[str]:
         """The browser's words, as many lines as they have."""
@@ -71,6 +84,7 @@ class BrowserError:
             "message": self.message,
             "page": self.page,
             "why": self.why,
+            "remedy": self.remedy,
             "follows": self.follows,
         }
 
@@ -89,6 +103,14 @@ def found(text: Text, data: bytes, said: str) -> list[BrowserError]:
     errors += sorted(of_calls, key=lambda error: (not error.is_first, error.number))
     # Where all only follow, they follow from faults that are told by a rule.
     return errors if any(not error.follows for error in errors) else []
+
+
+def alike(errors: list[BrowserError]) -> list[list[BrowserError]]:
+    """Errors together that come at the same place of the page with the same words. The first of each comes first."""
+    groups: dict[Any, list[BrowserError]] = {}
+    for error in errors:
+        groups.setdefault((error.page, error.word, error.message) if error.page else error, []).append(error)
+    return list(groups.values())
 
 
 def head(errors: list[BrowserError]) -> list[str]:

@@ -36,6 +36,8 @@ QUEUING = {"submit", "writeBuffer", "writeTexture"}
 # The rules that the standard tells by an exception.
 THROWS = {number for rule in rules.RULES if rule.is_thrown for number in rule.numbers}
 LONGEST = 20
+# Words by which a browser tells that an error only follows from another: Chromium's, and Firefox's.
+PREVIOUS = re.compile(r"is invalid due to a previous error|with '[^']*' label is invalid")
 TOO_SMALL = re.compile(next(row["says"] for row in TABLE["known"] if "createBindGroup" in row.get("calls", [])))
 
 
@@ -86,7 +88,8 @@ class Passed(Verdict):
 
     def __init__(self, passed: PassedCall) -> None:
         why = f"no script has it: {listed([passed['outside']])}" + (f", {passed['detail']}" if passed.get("detail") else "")
-        super().__init__(passed["before"], None, passed.get("at"), OUTSIDE, "has it not", browser_of(passed), why)
+        how = FOLLOWS if PREVIOUS.search(passed.get("message", "")) else OUTSIDE
+        super().__init__(passed["before"], None, passed.get("at"), how, "has it not", browser_of(passed), why)
         self.word = passed["do"]
         self.of_browser(passed)
 
@@ -150,6 +153,8 @@ class Compared:
         self, call: Call, fault: Fault | None, answer: Answer, settled: tuple[str | None, str] | None = None
     ) -> tuple[str, str | None]:
         """Why two answers differ, in `settled` how they settle a promise, as far as that is known: the verdict and its words."""
+        if answer.get("unanswered"):
+            return OUTSIDE, "the browser had not answered when the recording ended"
         if self.names(call) & self.tainted:
             return FOLLOWS, "it names what came of an earlier difference"
         for row in TABLE["known"]:
@@ -261,7 +266,7 @@ def browser_of(answer: Answer) -> str:
     if "throws" in answer:
         return f"throws {answer['throws']}"
     if "error" not in answer:
-        return "takes it"
+        return "does not answer" if answer.get("unanswered") else "takes it"
     lines = [line.strip(" -") for line in answer["message"].splitlines() if line.strip()]
     return f"refuses it ({answer['error']}, {answer['caught']}): {lines[0] if lines else 'it says nothing'}"
 

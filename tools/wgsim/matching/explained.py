@@ -3,12 +3,11 @@
 from __future__ import annotations
 
 import functools
-import re
-from typing import TYPE_CHECKING, Any, Callable, Iterable
+from typing import TYPE_CHECKING, Callable, Iterable
 
 from wgsim import causes
 from wgsim.exit_status import DIFFERENT, REFUSED, SILENT, End
-from wgsim.matching import browser_errors, culprit, refusal
+from wgsim.matching import browser_errors, culprit, refusal, repeated
 from wgsim.matching.beside import Beside, DoNotMatch
 from wgsim.matching.scopes import Scopes
 from wgsim.reading import bits, browser_answers, calls, frames, rules
@@ -33,10 +32,6 @@ OF_SET = {culprit.SCOPE, 340, 341, 342, 350, 351, 352, 353}
 LOCKED = 240
 # The rules of a pipeline that is set, and of bundles that are executed, on what their pass or bundle draws to.
 OF_TARGETS = {320, 321, 370, 371}
-# What a fault of the next frame says otherwise: names, places and entries.
-OF_FRAME = re.compile(r'"\w+"|\(?\b\d+:\d+\b\)?|\bentry \d+|\bframe \d+')
-# Of a fault that comes again how many entries are told.
-MOST_AGAIN = 3
 ACCESSES = {
     "read": "reads",
     "write": "writes",
@@ -87,51 +82,28 @@ class Explained:
 
     def faults(self) -> None:
         """The calls that were wrong, each with the rule that it breaks and why. What only follows from another fault has one line."""
-        wrong = [entry for entry in self.beside.report.entries if entry.fault]
-        for entry, *others in self.alike(wrong):
+        found = repeated.faults(self.beside, self.causes, self.pages)
+        for entry, *others in found:
             call = self.beside.call_of.get(entry.number)
+            again = [f"    {line}" for line in repeated.said(others)]
             if call is not None and self.causes.follows(entry):
                 self.following(entry, call)
-                self.again(others)
+                self.say(*again)
                 continue
             self.say("", f"FAULT at entry {entry.number}: " + (self.beside.script.where(call) if call else entry.word))
             if call is not None:
                 more = bits.of_call(call) + frames.of_fault(self.beside.script, call) + self.pages.said(call)
                 self.say(f"    {self.beside.script.said(call)}", *[f"    {line}" for line in more])
-            self.again(others)
+            self.say(*again)
             self.fault(entry, call)
-        if not wrong:
+        if not found:
             taken = "every call was taken" if self.scopes.lost is None else "every call before the loss was taken"
             self.say("", f"NO FAULT: {taken}" + (" by this core, and the browser's errors are its own" if self.browsers else ""))
         self.say(*self.scopes.loss())
 
-    def alike(self, wrong: list[Entry]) -> list[list[Entry]]:
-        """Faults that come again, as in each frame of a page: by the same lines of it, for the same reason. The first of each comes
-        first."""
-        groups: dict[Any, list[Entry]] = {}
-        for entry in wrong:
-            told, call = self.causes.of(entry), self.beside.call_of.get(entry.number)
-            at = self.pages.at(call) if call is not None else None
-            by = self.pages.at(told.command) if told.command is not None else None
-            reason = OF_FRAME.sub("", told.cause.condition) if told.cause else told.why_none
-            groups.setdefault((at, by, entry.word, entry.fault, reason) if at is not None else entry.number, []).append(entry)
-        return list(groups.values())
-
-    def again(self, others: list[Entry]) -> None:
-        """That a fault comes again, how often, and at which entries."""
-        if others:
-            more = f" and {len(others) - MOST_AGAIN} more" if len(others) > MOST_AGAIN else ""
-            entries = ", ".join(str(entry.number) for entry in others[:MOST_AGAIN])
-            which = "entry" if len(others) == 1 else "entries"
-            first = f"this is the first of {len(others) + 1} times at this place of the page"
-            self.say(f"    {first}; it comes again at {which} {entries}{more}")
-
     def of_browser(self, errors: list[browser_errors.BrowserError]) -> None:
         """The errors that the browser alone made, each once that comes again at the same place of the page."""
-        groups: dict[Any, list[browser_errors.BrowserError]] = {}
-        for error in errors:
-            groups.setdefault((error.page, error.word, error.message) if error.page else error, []).append(error)
-        for error, *others in groups.values():
+        for error, *others in browser_errors.alike(errors):
             self.say(*error.lines(self.beside.script, len(others) + 1))
 
     def following(self, entry: Entry, call: Call) -> None:

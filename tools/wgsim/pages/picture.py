@@ -14,9 +14,9 @@ from typing import TYPE_CHECKING, Any, Tuple
 
 from wgsim import causes
 from wgsim.exit_status import REFUSED
-from wgsim.matching import explained, refusal
-from wgsim.pages.fault_list import faults
-from wgsim.reading import frames
+from wgsim.matching import browser_errors, explained, refusal
+from wgsim.pages.fault_list import Faults
+from wgsim.reading import browser_answers, frames
 from wgsim.reading.report import SORTS, Release, count, summary
 
 if TYPE_CHECKING:
@@ -25,6 +25,7 @@ if TYPE_CHECKING:
     from wgsim.pages.marked_trace import Marks
     from wgsim.reading.places import Text
     from wgsim.reading.report import Part, Report, Step
+    from wgsim.reading.script import Call
 
 FOLDER = pathlib.Path(__file__).resolve().parent
 STYLE, SCRIPT = ((FOLDER / name).read_text(encoding="utf-8") for name in ("picture.css", "picture.js"))
@@ -140,6 +141,7 @@ class Picture:
     def __init__(self, beside: Beside, marks: Marks | None = None) -> None:
         self.beside = beside
         self.marks = marks
+        self.pages = browser_answers.Pages(beside.script.text.name if beside.known is not None else "")
         self.columns = columns(beside.report)
         if marks is not None:
             marks.add(self.columns)
@@ -195,9 +197,13 @@ class Picture:
         where = f"host, at entry {step.at}" if step.is_host else f"operation {step.at}"
         call = self.beside.command_of.get(step.number)
         title = f" title='{escape(self.beside.script.said(call))}'" if call else ""
-        line = "<small>call at {}:{}</small>".format(*self.beside.script.text.place(call.value.start)) if call else ""
+        line = f"<small>{escape(self.place(call))}</small>" if call else ""
         mark = f"<small class='mark'>{escape(self.marked(step))}</small>" if self.marked(step) else ""
         return f"<header{title}><small>step {step.number}</small><b>{parted(step.name)}</b><small>{where}</small>{line}{mark}</header>"
+
+    def place(self, call: Call) -> str:
+        """The place of a call: that in the page where the script was recorded, and else that in the script."""
+        return self.pages.at(call) or "call at {}:{}".format(*self.beside.script.text.place(call.value.start))
 
     def framed(self, key: Key, inside: str) -> str:
         row = self.rows[key]
@@ -287,12 +293,13 @@ def controls() -> str:
     )
 
 
-def drawn(name: str, beside: Beside, head: str, notes: list[str], causes_of: causes.Causes) -> str:
-    """The page of a report beside its script, which has a name."""
+def drawn(name: str, beside: Beside, head: str, notes: list[str], listed: Faults) -> str:
+    """The page of a report beside its script, which has a name, with its faults above it."""
     lines = [
         f"<p>{escape(head)}: {escape(summary(beside.report))}.</p>",
         *(f"<p>{escape(note)}</p>" for note in notes if note),
-        faults(beside, causes_of),
+        *(f"<p>{escape(line[0].upper() + line[1:])}.</p>" for line in browser_errors.head(listed.browsers)),
+        listed.text(),
         *canvases(beside),
     ]
     if not beside.report.items:
@@ -330,6 +337,6 @@ def picture(text: Text, data: bytes, program: Asked) -> tuple[str, int]:
         return page(text.name, f"<pre class='fault'>{escape(lines)}</pre>"), status
     notes = []
     beside = explained.set_beside(text, said, lambda *lines: notes.extend(lines))
-    causes_of = causes.of_report(data, beside)
+    listed = Faults(beside, causes.of_report(data, beside), browser_errors.found(text, data, said))
     head = f"The answer of {program.said}" if program.plays else f"Of {program.said}"
-    return drawn(text.name, beside, head, notes, causes_of), status
+    return drawn(text.name, beside, head, notes, listed), status

@@ -82,8 +82,8 @@ class Pages:
 
     def __init__(self, name: str) -> None:
         path = pathlib.Path(name)
-        beside = path.with_name(path.stem + CALLS)
-        self.calls = read(beside).get("calls", []) if path.suffix == ".json" and not is_beside(path.name) and beside.is_file() else []
+        beside = path.with_name(path.stem + CALLS) if path.suffix == ".json" and not is_beside(path.name) else None
+        self.calls = read(beside).get("calls", []) if beside is not None and beside.is_file() else []
 
     def told(self, call: Call) -> dict[str, Any]:
         """What is told of a call."""

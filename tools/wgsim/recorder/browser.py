@@ -20,6 +20,7 @@ from typing import Any, Iterator
 from wgsim import exit_status
 
 NAMES = ("chromium", "chromium-browser", "google-chrome", "google-chrome-stable")
+FIREFOX = ("firefox", "firefox-esr")
 # Headless, with WebGPU on a graphics driver that runs on the processor, and without what a browser does by itself.
 FLAGS = (
     "--headless=new", "--remote-debugging-pipe", "--no-first-run", "--no-default-browser-check", "--disable-dev-shm-usage",
@@ -35,6 +36,7 @@ ALONE = (
     "--proxy-bypass-list=localhost;127.0.0.1;[::1]",
     "--force-webrtc-ip-handling-policy=disable_non_proxied_udp",
 )
+ENDED = "it has ended"
 PIECE = 1 << 16
 # The files on which Chromium reads commands and writes answers.
 READS, WRITES = 3, 4
@@ -45,13 +47,12 @@ class Gone(Exception):
 
 
 def found(named: str | None) -> str | None:
-    """The browser that is named, or one that is installed; None where there is none."""
-    if named is not None:
-        path = shutil.which(named)
-        if path is None:
-            raise exit_status.End(exit_status.UNREAD, f"{named}: there is no such browser")
-        return path
-    return next(filter(None, map(shutil.which, NAMES)), None)
+    """The browser that is named, or one that is installed; None where there is none. Either name of Firefox finds it."""
+    names = NAMES if named is None else FIREFOX if named in FIREFOX else (named,)
+    path = next(filter(None, [shutil.which(name) for name in names]), None)
+    if named is not None and path is None:
+        raise exit_status.End(exit_status.UNREAD, f"{named}: there is no such browser")
+    return path
 
 
 class Browser:
@@ -98,7 +99,7 @@ class Browser:
             while data:
                 data = data[os.write(self.out, data[:PIECE]) :]
         except BrokenPipeError:
-            raise Gone("it has ended") from None
+            raise Gone(ENDED) from None
 
     def next(self, until: float) -> dict[str, Any] | None:
         """The next message, or None where there is none up to a time."""
@@ -112,7 +113,7 @@ class Browser:
                 return None
             piece = os.read(self.answers, PIECE)
             if not piece:
-                raise Gone("it has ended")
+                raise Gone(ENDED)
             parts.append(piece)
         message, _, self.rest = b"".join(parts).partition(b"\0")
         return json.loads(message)

@@ -97,10 +97,12 @@ class Recording {
   watch(answer, act) {
     if (this.isLost) return act();
     const scopes = this.scopes.slice(), update = frame;
+    answer.unanswered = true;
     for (const filter of ['internal', 'out-of-memory', 'validation']) NATIVE['GPUDevice.pushErrorScope'].call(this.device, filter);
     try { return act(); } finally {
       const popped = [0, 1, 2].map(() => NATIVE['GPUDevice.popErrorScope'].call(this.device).catch(() => null));
       const done = Promise.all(popped).then(found => {
+        delete answer.unanswered;
         const error = found.find(each => each);
         if (error) this.deliver(answer, error, scopes);
         if (error) this.repeat(`${answer.do} ${answer.error}`, answer.message, update);

@@ -1,6 +1,7 @@
 // The end of a recording: what was noted is put into one text, which the tool takes over, or which is saved as a file.
 
 const LONGEST = 3000;                  // how long promises of the page are waited for at the end, in milliseconds
+const patience = () => Math.max(LONGEST, asked.patience || 0);   // and the browser's answers, which may come late where it has much to do
 const OWN = /wgsim-record\.js$/;
 const IN_WORDS = [/^\s*at (?:async )?(?:(.*?) \()?((?:\w+:|<).*?):(\d+):(\d+)\)?$/, /^(.*?)@(.+?):(\d+):(\d+)$/];
 
@@ -22,10 +23,13 @@ function placed(error) {
   return at === undefined ? {} : by.length ? { at, by } : { at };
 }
 
+// Waits until some promises are settled, or some milliseconds are over.
+const within = (time, list) => Promise.race([new Promise(done => setTimeout(done, time)), Promise.all(list.map(promise => promise.catch(() => {})))]);
+
 async function toldOf(recording) {
   recording.end(asked.why);
-  const held = [...recording.errors, ...recording.promises].map(promise => promise.catch(() => {}));
-  await Promise.race([new Promise(done => setTimeout(done, LONGEST)), Promise.all(held)]);
+  // Our own scopes are answered in the end, and promises of the page may never be settled.
+  await Promise.all([within(patience(), [...recording.errors]), within(LONGEST, [...recording.promises])]);
   const found = recording.numbered(), at = found.map(each => each.n);
   const before = n => { const next = at.findIndex(each => each >= n); return next < 0 ? at.length : next; };
   const script = { budget: 2 ** 53 - 1, phases: [[found.map(each => each.call)]] };
@@ -50,7 +54,7 @@ async function recordingsTold(why) {
 }
 async function told(why = asked.why) {
   const [own, others] = await Promise.all([recordingsTold(why), ofWorkers(why)]);
-  return JSON.stringify({ form: 1, page: location.href, browser: navigator.userAgent, recordings: [...own, ...others] });
+  return JSON.stringify({ form: 1, page: location.href, browser: navigator.userAgent, ...lacks ? { lacks } : {}, recordings: [...own, ...others] });
 }
 
 // Ends the recording, and saves it as a file, of which `./wgsim record --saved FILE` makes a folder.
@@ -70,7 +74,7 @@ function noteFaultsOfThePage() {
 // Where the tool opened the page: hands the recording over when nothing more comes, or when its time is up.
 function handOver(hand) {
   const begun = performance.now(), timer = setInterval(() => {
-    const isQuiet = isAllQuiet();
+    const isQuiet = !!lacks || isAllQuiet();
     if (!isQuiet && performance.now() - begun <= asked.seconds * 1000) return;
     clearInterval(timer);
     told(isQuiet ? 'the page asked for nothing more' : `${asked.seconds} seconds were over`).then(hand);
@@ -81,8 +85,11 @@ function handOver(hand) {
 const element = globalThis.document && document.currentScript;
 const asked = { frames: Number(element && element.dataset && element.dataset.frames) || Infinity, why: 'it was saved', ...globalThis.wgsimRecordAsked };
 
+// A page that is not secure has no WebGPU in any browser.
+const lacks = globalThis.navigator && navigator.gpu ? null : globalThis.isSecureContext === false ? 'a secure address' : 'WebGPU';
+
 globalThis.wgsimRecord = { save, text: told };
-if (globalThis.navigator && navigator.gpu) {
+if (!lacks) {
   wrapCalls();
   wrapDevices();
   wrapScopes();

@@ -20,12 +20,18 @@ import urllib.request
 from typing import Any, Iterator
 
 from wgsim import exit_status
-from wgsim.recorder import browser, source_maps, whole_text
+from wgsim.recorder import browser, firefox, source_maps, whole_text
 
 FRAMES, SECONDS, IDLE = 3, 30, 1000
-# What a browser takes to start and to hand over what was recorded, in seconds.
-BESIDE = 45
+# How long a browser's answers are waited for at the end, in milliseconds; and what it takes to start and to hand over what was recorded, in
+# seconds.
+PATIENCE, BESIDE = 30000, 75
 HAND = "wgsimRecordHand"
+# Why nothing was recorded, by what the recorder found no WebGPU without.
+WHY_NONE = {
+    "WebGPU": "this browser has no WebGPU, or has it switched off",
+    "a secure address": "WebGPU is there on secure addresses alone, as https ones and those of this machine",
+}
 
 
 def is_here(address: str) -> bool:
@@ -94,39 +100,84 @@ def served(page: str) -> Iterator[str]:
 
 
 class Visit:
-    """One visit of a page, with the recorder put before its scripts."""
+    """One visit of a page, with the recorder put before its scripts. `failed` says why the page cannot be opened."""
 
-    def __init__(self, browsing: browser.Browser, address: str, asked: dict[str, Any]) -> None:
+    def __init__(self, browsing: browser.Browser | firefox.Firefox, address: str) -> None:
         self.browsing, self.address = browsing, address
         self.elsewhere: list[str] = []
         self.said: list[str] = []
-        target = browsing.ask("Target.createTarget", url="about:blank")["targetId"]
-        self.session = browsing.ask("Target.attachToTarget", targetId=target, flatten=True)["sessionId"]
-        for method in ("Page.enable", "Runtime.enable", "Network.enable"):
-            browsing.ask(method, self.session)
-        browsing.ask("Runtime.addBinding", self.session, name=HAND)
-        browsing.ask("Page.addScriptToEvaluateOnNewDocument", self.session, source=whole_text.text(asked))
-        self.failed = browsing.ask("Page.navigate", self.session, url=address).get("errorText")
+        self.failed: str | None = None
+
+    def take(self, method: str, words: dict[str, Any]) -> str | None:
+        """Takes a message, and returns what the recorder handed over by it, if it did."""
+        raise NotImplementedError
+
+    def asks(self, address: str) -> None:
+        """Notes what the page asks for where it is not of this machine."""
+        if re.match(r"(?:https?|wss?)://", address) and not is_here(address):
+            self.elsewhere.append(address)
 
     def handed(self, seconds: float) -> dict[str, Any] | None:
-        """What the recorder handed over, or None where it did not within some seconds."""
+        """What the recorder handed over, or None where it did not within some seconds, or the page cannot be opened."""
         until = time.monotonic() + seconds
-        while True:
+        while not self.failed:
             told = self.browsing.next(until)
             if told is None:
                 return None
-            method, words = told.get("method"), told.get("params", {})
-            if method == "Runtime.bindingCalled" and words["name"] == HAND:
-                found = json.loads(words["payload"])
+            text = self.take(told.get("method", ""), told.get("params", {}))
+            if text is not None:
+                found = json.loads(text)
                 if found["recordings"] or found["page"].split("#")[0] == self.address.split("#")[0]:
                     return found
-            elif method == "Network.requestWillBeSent":
-                address = words["request"]["url"]
-                if re.match(r"(?:https?|wss?)://", address) and not is_here(address):
-                    self.elsewhere.append(address)
-            elif method == "Runtime.exceptionThrown":
-                details = words["exceptionDetails"]
-                self.said.append(details.get("exception", {}).get("description") or details["text"])
+        return None
+
+
+class OfChromium(Visit):
+    """A visit by the DevTools protocol."""
+
+    def __init__(self, browsing: browser.Browser, address: str, asked: dict[str, Any]) -> None:
+        super().__init__(browsing, address)
+        target = browsing.ask("Target.createTarget", url="about:blank")["targetId"]
+        session = browsing.ask("Target.attachToTarget", targetId=target, flatten=True)["sessionId"]
+        for method in ("Page.enable", "Runtime.enable", "Network.enable"):
+            browsing.ask(method, session)
+        browsing.ask("Runtime.addBinding", session, name=HAND)
+        browsing.ask("Page.addScriptToEvaluateOnNewDocument", session, source=whole_text.text(asked))
+        self.failed = browsing.ask("Page.navigate", session, url=address).get("errorText")
+
+    def take(self, method: str, words: dict[str, Any]) -> str | None:
+        if method == "Runtime.bindingCalled" and words["name"] == HAND:
+            return words["payload"]
+        if method == "Network.requestWillBeSent":
+            self.asks(words["request"]["url"])
+        elif method == "Runtime.exceptionThrown":
+            details = words["exceptionDetails"]
+            self.said.append(details.get("exception", {}).get("description") or details["text"])
+        return None
+
+
+class OfFirefox(Visit):
+    """A visit by WebDriver BiDi."""
+
+    def __init__(self, browsing: firefox.Firefox, address: str, asked: dict[str, Any]) -> None:
+        super().__init__(browsing, address)
+        context = browsing.ask("browsingContext.getTree")["contexts"][0]["context"]
+        browsing.ask("session.subscribe", events=list(firefox.EVENTS))
+        recorder = f"hand => {{ globalThis.{HAND} = hand; (0, eval)({json.dumps(whole_text.text(asked))}); }}"
+        channel = {"type": "channel", "value": {"channel": HAND}}
+        browsing.ask("script.addPreloadScript", functionDeclaration=recorder, arguments=[channel])
+        browsing.ask("browsingContext.navigate", context=context, url=address, wait="none")
+
+    def take(self, method: str, words: dict[str, Any]) -> str | None:
+        if method == "script.message" and words["channel"] == HAND:
+            return words["data"]["value"]
+        if method == "network.beforeRequestSent":
+            self.asks(words["request"]["url"])
+        elif method == "browsingContext.navigationFailed" and words["url"].split("#")[0] == self.address.split("#")[0]:
+            self.failed = words.get("message") or "it does not say why"
+        elif method == "log.entryAdded" and (words["type"], words["level"]) == ("javascript", "error"):
+            self.said.append(words["text"])
+        return None
 
 
 @contextlib.contextmanager
@@ -141,7 +192,7 @@ def profile() -> Iterator[str]:
 
 def recorded(page: str, named: str | None, frames: int = FRAMES, seconds: int = SECONDS) -> dict[str, Any]:
     """What a browser recorded of a page. A page that cannot be had is told before a browser is looked for."""
-    asked = {"frames": frames, "seconds": seconds, "idle": IDLE, "hand": HAND}
+    asked = {"frames": frames, "seconds": seconds, "idle": IDLE, "patience": PATIENCE, "hand": HAND}
     with profile() as folder, served(page) as address:
         path = browser.found(named)
         if path is None:
@@ -153,11 +204,13 @@ def recorded(page: str, named: str | None, frames: int = FRAMES, seconds: int = 
                 ),
             )
         try:
-            with browser.opened(path, os.path.join(folder, "profile")) as browsing:
-                visit = Visit(browsing, address, asked)
+            driver, kind = (firefox.opened, OfFirefox) if firefox.is_one(path) else (browser.opened, OfChromium)
+            with driver(path, os.path.join(folder, "profile")) as browsing:
+                visit = kind(browsing, address, asked)
                 found = None if visit.failed else visit.handed(seconds + BESIDE)
         except browser.Gone as gone:
-            raise exit_status.End(exit_status.NO_ANSWER, f"{path}: {gone}") from None
+            why = f"; {firefox.WHY_GONE}" if firefox.is_one(path) and str(gone) == browser.ENDED else ""
+            raise exit_status.End(exit_status.NO_ANSWER, f"{path}: {gone}{why}") from None
     if visit.failed:
         raise exit_status.End(exit_status.UNREAD, f"{page}: the browser cannot open it: {visit.failed}")
     if found is None:
@@ -165,6 +218,8 @@ def recorded(page: str, named: str | None, frames: int = FRAMES, seconds: int = 
             exit_status.NO_ANSWER,
             f"{page}: the browser told nothing within {seconds + BESIDE} seconds" + "".join(f"\n    {line}" for line in visit.said[:3]),
         )
+    if not found["recordings"] and found.get("lacks") in WHY_NONE:
+        raise exit_status.End(exit_status.UNREAD, f"{page}: nothing was recorded: {WHY_NONE[found['lacks']]}")
     is_file = address != page
     source_maps.Sources(in_folder(pathlib.Path(page).parent) if is_file else at_address(page)).of_recordings(found)
     if is_file:
@@ -272,8 +327,10 @@ def told(found: dict[str, Any], written: list[tuple[pathlib.Path, dict[str, Any]
     for path, one in written:
         errors = sum("error" in answer or "throws" in answer for answer in one["answers"])
         passed = f", and {len(one['passed'])} that a script cannot say" if one["passed"] else ""
+        unanswered = sum("unanswered" in answer for answer in one["answers"])
+        late = f"; to {unanswered} of them the browser had no answer when it ended" if unanswered else ""
         lines.append(
-            f"{path}: {len(one['calls'])} calls{passed}; {errors} of them made an error in the browser; it ended because:"
+            f"{path}: {len(one['calls'])} calls{passed}; {errors} of them made an error in the browser{late}; it ended because:"
             f" {one['ended']['why']}"
         )
     if not written:

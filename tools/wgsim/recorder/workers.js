@@ -52,8 +52,8 @@ function hearWorkers() {
   if (globalThis.Worker) countWorkers();
   threads.onmessage = ({ data }) => {
     if (data.id === undefined) return;
-    const { idle, frames } = asked;
-    if (!workers.has(data.id)) threads.postMessage({ to: data.id, asked: { page: location.href, ...Number.isFinite(frames) ? { frames } : {}, ...idle ? { idle } : {} } });
+    const { idle, frames, patience: long } = asked;
+    if (!workers.has(data.id)) threads.postMessage({ to: data.id, asked: { page: location.href, ...Number.isFinite(frames) ? { frames } : {}, ...idle ? { idle } : {}, ...long ? { patience: long } : {} } });
     workers.set(data.id, { ...workers.get(data.id), ...data });
   };
   if (threads.unref) threads.unref();
@@ -62,7 +62,7 @@ function hearWorkers() {
 async function ofWorkers(why) {
   if (!workers.size) return [];
   threads.postMessage({ why });
-  const until = performance.now() + LONGEST + SLOWEST, isTold = worker => worker.recordings || !worker.has;
+  const until = performance.now() + patience() + SLOWEST, isTold = worker => worker.recordings || !worker.has;
   while (![...workers.values()].every(isTold) && performance.now() < until) await new Promise(done => setTimeout(done, 20));
   return [...workers.values()].flatMap(worker => worker.recordings || []);
 }
