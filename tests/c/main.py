@@ -2,8 +2,8 @@
 
 usage: tests/c/run [--archive FILE] [--libc FILE] [--jobs N]
 
-The archive is built over what is proved here (tests/shared/archive.py), or is the one that is named; --libc names what stands for the
-heap of the C library in place of the toolchain's. It needs a C compiler and the JSON library Jansson (Debian: libjansson-dev), without
+The archive is built over what is proved here (tools/wgsim/program/archive.py), or is the one that is named; --libc names what stands for
+the heap of the C library in place of the toolchain's. It needs a C compiler and the JSON library Jansson (Debian: libjansson-dev), without
 which no script is played, and that is a finding; and it takes clang or gcc, a C++ compiler, valgrind and cargo where they are there.
 Prints what it has tested, a line for each finding, and fails if there is one, or if nothing could be tested.
 """
@@ -19,7 +19,7 @@ import sys
 import tempfile
 
 import declared
-from shared import archive
+from wgsim.program import archive
 
 TOP = pathlib.Path(__file__).resolve().parents[2]
 

@@ -22,7 +22,7 @@ A small tool around the proved program: it plays scripts, and explains, draws an
 FILE is a script; with no FILE, or -, it is standard input. The proved program answers where `wgsim prove` has built it from
 the sources as they are; else the program is compiled without its proofs, in about a minute, once, and a line on standard
 error says so. --proved refuses all answers but those of the proved program, and --unproved asks for the other one. Both need
-the toolchain `rt`.
+the toolchain `rt`. A release has the program beside it, and needs none.
 """
 STATUSES = """\
 `wgsim COMMAND --help` has the words of a command.
@@ -119,11 +119,13 @@ def test(words: argparse.Namespace, module: ModuleType, wrong: Callable[[str], N
 
 def version() -> str:
     """Which version and sources this is, which programs there are of them, and by which toolchain one would be proved."""
-    from wgsim.program import unproved
+    from wgsim.program import release, unproved
 
     def of(is_current: bool, program: pathlib.Path, done: str) -> str:
         return f"{done} from these sources" if is_current else f"{done} from other sources" if program.exists() else f"not {done}"
 
+    if release.is_one():
+        return "".join(line + "\n" for line in release.version())
     by = "the proved program" if building.is_built() else "the program without proofs; `./wgsim prove` proves and builds it"
     lines = [
         f"wgsim of Wethlorn {(TOP / 'VERSION').read_text(encoding='utf-8').strip()}, sources {building.sum_of_sources()[:12]}",
