@@ -10,7 +10,7 @@ use Rattle.wg_limits.proofs.Between.{all_between, all_fixed}
 use Rattle.wg_script.specs.Giving.{◌>>=◌}
 use Rattle.wg_script.specs.Limits.{members_from, limits_from, limits_in, limits_at}
 use Rattle.wg_script.specs.Draft.{at, check_top, budget_of, listed_of, limits_of, phases_of, top_of, json_of, draft_read, draft_of}
-use Rattle.wg_script.specs.declared.draft.Draft.{Draft}
+use Rattle.wg_script.specs.declared.draft.ScriptDraft.{ScriptDraft}
 use Rattle.wg_script.specs.declared.draft.Place.TheVariants as place
 use Rattle.wg_names.specs.Script.{phases_bound, script_from}
 use Rattle.wg_accepted.specs.Accepted.{LimitsAreGranted}
@@ -45,7 +45,7 @@ at_granted (Some d) limits e = by_read (limits_in d) refl e
         subst IsGranted same (from_granted found.0 read found.2)
     by_read (Err rule) is e = absurd (cc)
 
-top_granted : (d : Data) (draft : Draft) → top_of d ≡ Ok draft → IsGranted draft.limits
+top_granted : (d : Data) (draft : ScriptDraft) → top_of d ≡ Ok draft → IsGranted draft.limits
 unfolding top_of
 top_granted d draft e =
     let one = bound (check_top d) _ draft e in
@@ -56,7 +56,7 @@ top_granted d draft e =
     let same : four.0 ≡ draft.limits = cc in
     subst IsGranted same (at_granted (get (codes "limits") d) four.0 four.1)
 
-draft_granted : (bytes : List ℕ) (draft : Draft) → draft_of bytes ≡ Ok draft → IsGranted draft.limits
+draft_granted : (bytes : List ℕ) (draft : ScriptDraft) → draft_of bytes ≡ Ok draft → IsGranted draft.limits
 draft_granted bytes draft e = by_json (json_of bytes) e
   where
     by_json : (o : Option Data) → draft_read o ≡ Ok draft → IsGranted draft.limits

@@ -13,7 +13,7 @@ use Rattle.wg_history.specs.Entries.{Entry}
 use Rattle.wg_history.specs.Traces.{Trace}
 use Rattle.wg_history.specs.ReleaseLaws.{Grows}
 use Rattle.wg_history.proofs.Growing.{releases_so_far}
-use Rattle.wg_desk.specs.Desks.{DeskValue, HasSent, HasGrown, IsNumber}
+use Rattle.wg_desk.specs.Desks.{DeskValue, HasSent, HandsOutGrowth, IsNumber}
 use Rattle.wg_desk.specs.Seats.{found_at, is_late_at, recorded_at}
 use Rattle.wg_desk.specs.Sent.{event_sent, seats_after}
 use Rattle.wg_told.specs.declared.replies.ToldReply.{ToldReply}
@@ -22,7 +22,7 @@ use Rattle.wg_c.specs.Inners.{InnerValue, AreWaiting, answer_to, HasDone, HasAsk
 
 -- an event that was sent
 done_by : (old new : InnerValue) (who : ℕ) (event : Event) (reply : Reply)
-    → new.desk.setup ≡ old.desk.setup → HasSent old.desk new.desk who event reply → HasGrown old.desk new.desk old.items new.items
+    → new.desk.setup ≡ old.desk.setup → HasSent old.desk new.desk who event reply → HandsOutGrowth old.desk new.desk old.items new.items
     → new.told ≡ old.told → new.settled ≡ old.settled ++ reply.settled → HasDone old new who event
 done_by old new who event reply setup sent grown still settled =
     let e : reply ≡ answer_to old event = sent.replied in
@@ -36,7 +36,7 @@ done_by old new who event reply setup sent grown still settled =
 
 pub asked_by : (old new : InnerValue) (who : ℕ) (request : RequestOf ℕ) (reply : Reply) (out : ToldReply)
     → new.desk.setup ≡ old.desk.setup → HasSent old.desk new.desk who (event_sent old.desk.seats request) reply
-    → IsNumber reply.answer (length old.desk.seats) → HasGrown old.desk new.desk old.items new.items
+    → IsNumber reply.answer (length old.desk.seats) → HandsOutGrowth old.desk new.desk old.items new.items
     → new.desk.seats ≡ seats_after old.desk.setup.serial old.desk.seats request reply.answer
     → new.told ≡ old.told → new.settled ≡ old.settled ++ reply.settled → out ≡ reply_told reply (length old.desk.history) 0
     → HasAsked old new who request out
@@ -53,7 +53,7 @@ asked_by old new who request reply out setup sent number grown seats still settl
 pub came_late : (old new : InnerValue) (who encoder : ℕ) (on : On) (command : CommandOf ℕ) (reply : Reply) (out : ToldReply)
     → true ≡ is_late_at old.desk.seats encoder on
     → new.desk.setup ≡ old.desk.setup → HasSent old.desk new.desk who (late_event old encoder) reply
-    → HasGrown old.desk new.desk old.items new.items → new.desk.seats ≡ old.desk.seats
+    → HandsOutGrowth old.desk new.desk old.items new.items → new.desk.seats ≡ old.desk.seats
     → new.told ≡ old.told → new.settled ≡ old.settled ++ reply.settled
     → out ≡ reply_told reply (length old.desk.history) (pass_number old encoder command)
     → HasRecorded old new who encoder on command out
@@ -87,7 +87,7 @@ none_waits setup history items told none empty untold = record {
 
 -- It does so after an event too.
 pub waits_after : (old new : DeskValue) (who : ℕ) (event : Event) (reply : Reply) (items more : List Item) (told : ℕ)
-    → new.setup ≡ old.setup → HasSent old new who event reply → HasGrown old new items more
+    → new.setup ≡ old.setup → HasSent old new who event reply → HandsOutGrowth old new items more
     → AreWaiting old.setup old.history items told → AreWaiting new.setup new.history more told
 waits_after old new who event reply items more told setup sent grown waits =
     let entry : Entry = record { who = who; event = event; reply = reply } in

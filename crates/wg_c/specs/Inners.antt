@@ -16,7 +16,7 @@ use Rattle.wg_history.specs.Answers.{reply_to}
 use Rattle.wg_history.specs.Traces.{Trace}
 use Rattle.wg_desk.specs.declared.desk.DeskError.{DeskError}
 use Rattle.wg_desk.specs.declared.desk.DeskError.TheVariants.{NoMemory, NoObject, NoPass}
-use Rattle.wg_desk.specs.Desks.{DeskValue, HasSent, HasGrown, IsUnchanged, IsNumber}
+use Rattle.wg_desk.specs.Desks.{DeskValue, HasSent, HandsOutGrowth, IsUnchanged, IsNumber}
 use Rattle.wg_desk.specs.Seats.{found_at, passes_at, is_late_at, recorded_at}
 use Rattle.wg_desk.specs.Sent.{event_sent, seats_after}
 use Rattle.wg_told.specs.declared.replies.ToldReply.{ToldReply}
@@ -61,7 +61,7 @@ answer_to old event = reply_to old.desk.setup (reverse old.desk.history) event
 pub record HasDone (old new : InnerValue) (who : ℕ) (event : Event) : Type 0 where
   pub setup : new.desk.setup ≡ old.desk.setup
   pub sent : HasSent old.desk new.desk who event (answer_to old event)
-  pub grown : HasGrown old.desk new.desk old.items new.items
+  pub grown : HandsOutGrowth old.desk new.desk old.items new.items
   pub still : new.told ≡ old.told
   pub settled : new.settled ≡ old.settled ++ (answer_to old event).settled
 

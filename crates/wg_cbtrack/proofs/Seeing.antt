@@ -90,10 +90,3 @@ see_next deeds d starts ends starts_after ends_after are s e = record {
   starts = starts_next deeds d starts starts_after are.starts s;
   ends = ends_next deeds d ends ends_after are.ends e;
 }
-
--- Before anything is noted.
-pub none_seen : AreSeen [] [] []
-none_seen = record {
-  starts = record { apart = tt; sets = λ place p. refl };
-  ends = record { apart = tt; sets = λ place p. refl };
-}

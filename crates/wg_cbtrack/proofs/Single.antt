@@ -5,7 +5,7 @@ use Rattle.wg_rows.specs.Rows.{EachRow}
 use Rattle.wg_rows.specs.Uses.{row_reads}
 use Rattle.wg_orders.specs.Steps.{Step, reads, writes}
 use Rattle.wg_orders.specs.Trace.{Item, needs, cells_of, add_step, add_clear, to_clear, add_group}
-use Rattle.wg_cbtrack.specs.declared.draft.Draft.{Draft}
+use Rattle.wg_cbtrack.specs.declared.draft.PlanDraft.{PlanDraft}
 use Rattle.wg_cbtrack.specs.Stands.{TrackerValue}
 use Rattle.wg_cbtrack.specs.Adds.{HasAdded}
 use Rattle.wg_cbtrack.specs.Group.{left, left_cells, clear_steps, start_clear}
@@ -37,5 +37,5 @@ none_left s = none_kept (λ c. reads s c && left [] c) (cells_of (s ∷ [])) (ea
 single : (trace : List Item) (s : Step) → add_group trace (s ∷ []) ≡ add_step (add_clear trace s.place (to_clear trace (s ∷ []))) s
 single trace s = group_steps trace s [] ∙ ap (λ (cells : List Cell). add_steps (start_clear trace s.place (s ∷ [])) (clear_steps s.place cells ++ (s ∷ []))) (none_left s)
 
-pub alone_added : (t : TrackerValue) (e : Draft) (s : Step) (f : List Item → List Item) → HasAdded t e (λ trace. add_step (add_clear (f trace) s.place (to_clear (f trace) (s ∷ []))) s) → HasAdded t e (λ trace. add_group (f trace) (s ∷ []))
+pub alone_added : (t : TrackerValue) (e : PlanDraft) (s : Step) (f : List Item → List Item) → HasAdded t e (λ trace. add_step (add_clear (f trace) s.place (to_clear (f trace) (s ∷ []))) s) → HasAdded t e (λ trace. add_group (f trace) (s ∷ []))
 alone_added t e s f h = added_same t e (λ trace. add_step (add_clear (f trace) s.place (to_clear (f trace) (s ∷ []))) s) (λ trace. add_group (f trace) (s ∷ [])) (λ trace stands. sym (single (f trace) s)) h

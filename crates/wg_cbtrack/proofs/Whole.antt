@@ -7,7 +7,7 @@ use Rattle.wg_rows.specs.Sets.{UseRow}
 use Rattle.wg_orders.specs.Steps.{Step, StepPlace, placed}
 use Rattle.wg_orders.specs.Trace.{Item, add_group}
 use Rattle.wg_cbtrack.specs.Stands.{TrackerValue}
-use Rattle.wg_cbtrack.specs.declared.draft.Draft.{Draft}
+use Rattle.wg_cbtrack.specs.declared.draft.PlanDraft.{PlanDraft}
 use Rattle.wg_cbtrack.specs.declared.kept.Kept.{Kept}
 use Rattle.wg_cbtrack.specs.Group.{placed_all, left_cells, clear_steps}
 use Rattle.wg_cbtrack.specs.Items.{inner_steps, AreKept}
@@ -17,17 +17,16 @@ use Rattle.wg_cbtrack.specs.Seen.{AreSeen}
 use Rattle.wg_cbtrack.specs.declared.kept.Rows.{Rows}
 use Rattle.wg_cbtrack.specs.Adds.{HasAdded}
 use Rattle.wg_cbtrack.proofs.Leaving.{reads_again}
-use Rattle.wg_cbtrack.proofs.Seeing.{none_seen}
 
 some_kept : (place at : StepPlace) (inner end : List UseRow) (cells : List Cell) (s : Step) (steps : List Step) → AreKept place inner (clear_steps at cells ++ (s ∷ steps)) [] end → ⊥
 some_kept place at inner end [] s steps h = h
 some_kept place at inner end (c ∷ cells) s steps h = h
 
-pub none_added : (t : TrackerValue) (d : Draft) (place : StepPlace) (deeds : List Deed) (held : List Kept) (ends : List UseRow) (wants leaves : List (Cells × AccessKind)) (f : List Item → List Item) → held ≡ [] → IsTrack deeds held ends wants leaves → HasAdded t d f → HasAdded t d (λ trace. add_group (f trace) (placed_all place deeds))
+pub none_added : (t : TrackerValue) (d : PlanDraft) (place : StepPlace) (deeds : List Deed) (held : List Kept) (ends : List UseRow) (wants leaves : List (Cells × AccessKind)) (f : List Item → List Item) → held ≡ [] → IsTrack deeds held ends wants leaves → HasAdded t d f → HasAdded t d (λ trace. add_group (f trace) (placed_all place deeds))
 none_added t d place [] held ends wants leaves f e track h = h
 none_added t d place (x ∷ deeds) held ends wants leaves f e track h = absurd (some_kept place place [] ends (left_cells [] (placed place x)) (placed place x) (inner_steps (clear_steps place (left_cells [] (placed place x)) ++ placed place x ∷ []) (placed_all place deeds)) (subst (λ xs. AreKept place [] (inner_steps [] (placed place x ∷ placed_all place deeds)) xs ends) e (track.kept place)))
 
-pub some_added : (t : TrackerValue) (d : Draft) (place : StepPlace) (deeds : List Deed) (held : List Kept) (ends : List UseRow) (wants leaves : List (Cells × AccessKind)) (f : List Item → List Item) → (held ≡ [] → ⊥) → IsTrack deeds held ends wants leaves → ((first : Deed) (rest : List Deed) → IsTrack (first ∷ rest) held ends wants leaves → HasAdded t d (λ trace. add_group (f trace) (placed_all place (first ∷ rest)))) → HasAdded t d (λ trace. add_group (f trace) (placed_all place deeds))
+pub some_added : (t : TrackerValue) (d : PlanDraft) (place : StepPlace) (deeds : List Deed) (held : List Kept) (ends : List UseRow) (wants leaves : List (Cells × AccessKind)) (f : List Item → List Item) → (held ≡ [] → ⊥) → IsTrack deeds held ends wants leaves → ((first : Deed) (rest : List Deed) → IsTrack (first ∷ rest) held ends wants leaves → HasAdded t d (λ trace. add_group (f trace) (placed_all place (first ∷ rest)))) → HasAdded t d (λ trace. add_group (f trace) (placed_all place deeds))
 some_added t d place [] [] ends wants leaves f some track h = absurd (some refl)
 some_added t d place [] (k ∷ held) ends wants leaves f some track h = absurd (track.kept place)
 some_added t d place (x ∷ deeds) held ends wants leaves f some track h = h x deeds track
@@ -38,20 +37,6 @@ tracks_with deeds held ends wants leaves ends2 wants2 leaves2 e w l h = subst (�
 
 pub seen_with : (deeds : List Deed) (starts ends starts2 ends2 : List UseRow) → starts ≡ starts2 → ends ≡ ends2 → AreSeen deeds starts ends → AreSeen deeds starts2 ends2
 seen_with deeds starts ends starts2 ends2 s e h = subst (λ x. AreSeen deeds x ends2) s (subst (λ y. AreSeen deeds starts y) e h)
-
--- Before anything is noted.
-pub none_held : (rows : Rows) → rows.ends.items ≡ [] → rows.wants.items ≡ [] → rows.leaves.items ≡ [] → rows.starts.items ≡ [] → rows.last.items ≡ [] → rows.needs.items ≡ [] → Holds [] [] rows
-none_held rows ends wants leaves starts last needs = record {
-  track = tracks_with [] [] [] [] [] rows.ends.items rows.wants.items rows.leaves.items (sym ends) (sym wants) (sym leaves) (record {
-    kept = λ place. refl;
-    needs = λ place c. refl;
-    writes = λ place c. refl;
-    unsets = λ place c. refl;
-    tidy = record { reads = (tt, tt); left = tt; written = λ c kind e. absurd (cc) };
-  });
-  seen = seen_with [] [] [] rows.starts.items rows.last.items (sym starts) (sym last) none_seen;
-  needs = needs ∙ sym (ap (map (λ row. row.0)) wants);
-}
 
 -- The cells that are needed, as reads.
 pub needs_again : (deeds : List Deed) (held : List Kept) (rows : Rows) → Holds deeds held rows → as_reads rows.needs.items ≡ rows.wants.items

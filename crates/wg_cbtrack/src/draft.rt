@@ -30,7 +30,7 @@ use wg_trace::usages::Usages;
 
 /// The items found so far, and the notes of their steps over the rows of the states.
 #[derive(Drop)]
-pub struct Draft {
+pub struct PlanDraft {
     pub items: Vec<Item>,
     pub last: Notes<(PartRun, Usages)>,
     pub cells: Notes<(CellRow, RunSet)>,
@@ -63,13 +63,13 @@ pub fn uses_of(
 fn add_step(
     last_rows: &Fading<Items<(PartRun, Usages)>>,
     set_rows: &Fading<Items<(CellRow, RunSet)>>,
-    draft: Draft,
+    draft: PlanDraft,
     step: Step,
-) -> Result<Draft, NoMemory>
+) -> Result<PlanDraft, NoMemory>
     ensures { IfOk result (λ d. (f : List Item → List Item) →
         HasAdded (tracker_of last_rows.now set_rows.now) draft f → HasAdded (tracker_of last_rows.now set_rows.now) d (λ trace. add_step (f trace) step)) }
 {
-    let Draft {
+    let PlanDraft {
         mut items,
         last,
         cells,
@@ -78,17 +78,17 @@ fn add_step(
     let last = step_over(&mut items, last_rows, last, &step)?;
     let cells = noting::notes_of(alloc, set_rows, cells, step.accesses.as_slice())?;
     items.push(Item::Step(step))?;
-    Ok(Draft { items, last, cells })
+    Ok(PlanDraft { items, last, cells })
 }
 
 /// Adds the clear of cells, if there are any.
 fn add_clear(
     last_rows: &Fading<Items<(PartRun, Usages)>>,
     set_rows: &Fading<Items<(CellRow, RunSet)>>,
-    draft: Draft,
+    draft: PlanDraft,
     place: StepPlace,
     rows: Vec<(Cells, AccessKind)>,
-) -> Result<Draft, NoMemory>
+) -> Result<PlanDraft, NoMemory>
     ensures { IfOk result (λ d. (f : List Item → List Item) (steps : List Step) →
         AreNeeded (now_of (tracker_of last_rows.now set_rows.now) draft).cells steps rows.items → HasAdded (tracker_of last_rows.now set_rows.now) draft f →
         HasAdded (tracker_of last_rows.now set_rows.now) d (λ trace. add_clear (f trace) place (to_clear (f trace) steps))) }
@@ -112,10 +112,10 @@ fn add_clear(
 pub fn add_track(
     last_rows: &Fading<Items<(PartRun, Usages)>>,
     set_rows: &Fading<Items<(CellRow, RunSet)>>,
-    draft: Draft,
+    draft: PlanDraft,
     place: StepPlace,
     track: Track<'_>,
-) -> Result<Draft, NoMemory>
+) -> Result<PlanDraft, NoMemory>
     ensures { IfOk result (λ d. (f : List Item → List Item) (first : Deed) (deeds : List Deed) →
         IsTrack (first ∷ deeds) track.entry.kept.now track.entry.ends.now track.entry.wants.now track.entry.leaves.now →
         HasAdded (tracker_of last_rows.now set_rows.now) draft f →
@@ -124,7 +124,7 @@ pub fn add_track(
     let alloc = *draft.items.allocator();
     let rows = unset_rows(alloc, set_rows, &draft.cells, track.wants)?;
     let cleared = add_clear(last_rows, set_rows, draft, place, rows)?;
-    let Draft {
+    let PlanDraft {
         mut items,
         last,
         cells,
@@ -132,16 +132,16 @@ pub fn add_track(
     push_items(&mut items, place, last_rows, &last, track.kept)?;
     let last = last::notes_of(alloc, last_rows, last, track.ends)?;
     let cells = noting::notes_of(alloc, set_rows, cells, track.leaves)?;
-    Ok(Draft { items, last, cells })
+    Ok(PlanDraft { items, last, cells })
 }
 
 /// Adds one step, as what a command buffer of its own does: the clear of what it needs, and the step.
 pub fn add_alone(
     last_rows: &Fading<Items<(PartRun, Usages)>>,
     set_rows: &Fading<Items<(CellRow, RunSet)>>,
-    draft: Draft,
+    draft: PlanDraft,
     step: Step,
-) -> Result<Draft, NoMemory>
+) -> Result<PlanDraft, NoMemory>
     ensures { IfOk result (λ d. (f : List Item → List Item) →
         HasAdded (tracker_of last_rows.now set_rows.now) draft f →
         HasAdded (tracker_of last_rows.now set_rows.now) d (λ trace. add_group (f trace) (step ∷ []))) }
@@ -154,14 +154,14 @@ pub fn add_alone(
 }
 
 /// Nothing is found yet. It takes no memory.
-pub fn begin(alloc: Global, last: &LastUse, cells: &CellState) -> Draft
+pub fn begin(alloc: Global, last: &LastUse, cells: &CellState) -> PlanDraft
     ensures items { result.items.items ≡ [] }
     ensures added { HasAdded (tracker_of last.now cells.now) result (λ trace. trace) }
 {
     // What they keep is in order.
     let _ = last.rows();
     let _ = cells.rows();
-    Draft {
+    PlanDraft {
         items: Vec::new(alloc),
         last: Notes::new(alloc),
         cells: Notes::new(alloc),

@@ -9,7 +9,7 @@ use crate::join::{inner_changes, opens, used_after};
 use crate::kept::{Kept, Rows};
 use crate::near::near_rows;
 use crate::owners::objects_of;
-use crate::seen::{Seen, see};
+use crate::seen::{SeenUses, see};
 use std::alloc::Global;
 use wg_entry::NoMemory;
 use wg_init::unset::cells_of;
@@ -179,7 +179,7 @@ pub fn step_after(alloc: Global, rows: &Rows, deed: &Deed) -> Result<After, NoMe
         wants,
         leaves,
     } = next;
-    let Seen { starts, ends: last } = seen;
+    let SeenUses { starts, ends: last } = seen;
     let needs = cells_of(alloc, wants.as_slice())?;
     Ok(After {
         kept,

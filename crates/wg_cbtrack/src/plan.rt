@@ -5,7 +5,7 @@ ghost use Rattle.wg_cbtrack.specs.Stands.{tracker_of, IsSound};
 ghost use Rattle.wg_cbtrack.specs.Adds.{now_of, IsHere, HasAdded};
 ghost use Rattle.wg_cbtrack.specs.Group.{placed_all};
 
-use crate::draft::{Draft, add_alone, add_track, begin};
+use crate::draft::{PlanDraft, add_alone, add_track, begin};
 use crate::track::CbTrack;
 use std::alloc::Global;
 use std::marker::Model;
@@ -23,10 +23,10 @@ use wg_trace::usages::Usages;
 fn add_to(
     last_rows: &Fading<Items<(PartRun, Usages)>>,
     set_rows: &Fading<Items<(CellRow, RunSet)>>,
-    draft: Draft,
+    draft: PlanDraft,
     place: StepPlace,
     track: &CbTrack,
-) -> Result<Draft, NoMemory>
+) -> Result<PlanDraft, NoMemory>
     ensures { IfOk result (λ d. (f : List Item → List Item) →
         HasAdded (tracker_of last_rows.now set_rows.now) draft f →
         HasAdded (tracker_of last_rows.now set_rows.now) d (λ trace. add_group (f trace) (placed_all place track.now))) }
@@ -44,7 +44,7 @@ fn add_to(
 #[derive(Drop)]
 pub struct Plan {
     place: StepPlace,
-    draft: Draft,
+    draft: PlanDraft,
 }
 
 impl Model for Plan {
@@ -111,7 +111,7 @@ impl Plan {
         ensures now { tracker_of last.new cells.new ≡ now_of (tracker_of last.old cells.old) self.draft }
     {
         let Plan { draft, .. } = self;
-        let Draft {
+        let PlanDraft {
             items,
             last: last_notes,
             cells: cell_notes,

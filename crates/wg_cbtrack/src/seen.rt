@@ -12,7 +12,7 @@ use wg_trace::usages::Usages;
 
 /// The first and the last sets of parts.
 #[derive(Drop)]
-pub struct Seen {
+pub struct SeenUses {
     pub starts: Vec<(PartRun, Usages)>,
     pub ends: Vec<(PartRun, Usages)>,
 }
@@ -23,7 +23,7 @@ pub fn see(
     starts: &[(PartRun, Usages)],
     ends: &[(PartRun, Usages)],
     uses: &[(PartRun, Usages)],
-) -> Result<Seen, NoMemory>
+) -> Result<SeenUses, NoMemory>
     ensures { IfOk result (λ seen. IsSeen starts.now ends.now uses.now seen.starts.items seen.ends.items) }
 {
     let uses = sets(alloc, uses)?;
@@ -32,7 +32,7 @@ pub fn see(
     let starts_after = put_all(alloc, before, first.as_slice())?;
     let held = Vec::from_slice(alloc, ends)?;
     let ends_after = used_after(alloc, held, uses.as_slice())?;
-    Ok(Seen {
+    Ok(SeenUses {
         starts: starts_after,
         ends: ends_after,
     })

@@ -50,8 +50,8 @@ pub record HasSent (old new : DeskValue) (who : ℕ) (event : Event) (reply : Re
   pub entered : new.history ≡ old.history ++ (record { who = who; event = event; reply = reply }) ∷ []
 
 -- What was handed out before, and what a list has, stay the trace of the device.
-abbrev pub HasGrown : DeskValue → DeskValue → List Item → List Item → Type 0
-HasGrown old new before after = (first : List Item) → first ++ before ≡ Trace old.setup old.history → first ++ after ≡ Trace new.setup new.history
+abbrev pub HandsOutGrowth : DeskValue → DeskValue → List Item → List Item → Type 0
+HandsOutGrowth old new before after = (first : List Item) → first ++ before ≡ Trace old.setup old.history → first ++ after ≡ Trace new.setup new.history
 
 -- neither the history nor what is kept of objects has changed
 pub record IsUnchanged (old new : DeskValue) : Type 0 where

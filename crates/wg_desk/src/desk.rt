@@ -9,7 +9,7 @@ ghost use Rattle.wg_state.specs.Gone.{named_by};
 ghost use Rattle.wg_calls.specs.Calls.{event_asked, info_asked, finish_event, finished_info, finish_of, known_of_finish};
 ghost use Rattle.wg_desk.specs.Seats.{handle_at, found_at, passes_at, any_missing, is_unbegun, is_late_at, recorded_at, reopened_at, seat_made, AreSeated};
 ghost use Rattle.wg_desk.specs.Sent.{ending_asked, ending_at, event_sent, left_after, seats_ended, seats_left, seats_after};
-ghost use Rattle.wg_desk.specs.Desks.{any_dropped, names_dropped, MakesGenuine, HasSent, HasGrown, IsUnchanged, IsDue, IsNumber};
+ghost use Rattle.wg_desk.specs.Desks.{any_dropped, names_dropped, MakesGenuine, HasSent, HandsOutGrowth, IsUnchanged, IsDue, IsNumber};
 
 use crate::asked::{command_over, dropped_number, is_missing_in, is_missing_on, request_over};
 use crate::endings::{ending_asked, recording_in};
@@ -128,7 +128,7 @@ impl Desk {
         requires undropped { any_dropped self.old.setup (reverse self.old.history) (named_by event) ≡ false }
         ensures setup { self.new.setup ≡ self.old.setup }
         ensures done { IfOk result (λ reply. HasSent self.old self.new who event reply) }
-        ensures items { OnOk result (HasGrown self.old self.new items.old.items items.new.items) }
+        ensures items { OnOk result (HandsOutGrowth self.old self.new items.old.items items.new.items) }
         ensures seats { IfOk result (λ reply. self.new.seats ≡ left_after event (self.old.seats ++ option_to_list (seat_made self.old.setup.serial info reply.answer))) }
         ensures back { IfErr result (λ refused. refused.call ≡ event) }
         ensures unchanged { OnErr result (IsUnchanged self.old self.new) }
@@ -166,7 +166,7 @@ impl Desk {
         requires undropped { names_dropped self.old.setup (reverse self.old.history) (named request.now) ≡ false }
         ensures setup { self.new.setup ≡ self.old.setup }
         ensures done { IfOk result (λ reply. HasSent self.old self.new who (event_asked request.now) reply) }
-        ensures items { OnOk result (HasGrown self.old self.new items.old.items items.new.items) }
+        ensures items { OnOk result (HandsOutGrowth self.old self.new items.old.items items.new.items) }
         ensures seats { IfOk result (λ reply. self.new.seats ≡ left_after (event_asked request.now) (self.old.seats ++ option_to_list (seat_made self.old.setup.serial (info_asked request.now) reply.answer))) }
         ensures unchanged { OnErr result (IsUnchanged self.old self.new) }
         ensures no_items { OnErr result (items.new.items ≡ items.old.items) }
@@ -190,7 +190,7 @@ impl Desk {
         requires undropped { names_dropped self.old.setup (reverse self.old.history) (named request) ≡ false }
         ensures setup { self.new.setup ≡ self.old.setup }
         ensures done { IfOk result (λ reply. HasSent self.old self.new who (event_asked request) reply) }
-        ensures items { OnOk result (HasGrown self.old self.new items.old.items items.new.items) }
+        ensures items { OnOk result (HandsOutGrowth self.old self.new items.old.items items.new.items) }
         ensures seats { IfOk result (λ reply. self.new.seats ≡ left_after (event_asked request) (self.old.seats ++ option_to_list (seat_made self.old.setup.serial (info_asked request) reply.answer))) }
         ensures unchanged { OnErr result (IsUnchanged self.old self.new) }
         ensures no_items { OnErr result (items.new.items ≡ items.old.items) }
@@ -208,7 +208,7 @@ impl Desk {
         requires { any_missing self.old.seats (named request.now) ≡ false }
         ensures setup { self.new.setup ≡ self.old.setup }
         ensures done { IfOk result (λ reply. HasSent self.old self.new who (event_asked (map_refs (found_at self.old.seats) request.now)) reply) }
-        ensures items { OnOk result (HasGrown self.old self.new items.old.items items.new.items) }
+        ensures items { OnOk result (HandsOutGrowth self.old self.new items.old.items items.new.items) }
         ensures seats { IfOk result (λ reply. self.new.seats ≡ seats_left self.old.setup.serial self.old.seats request.now reply.answer) }
         ensures unchanged { OnErr result (IsUnchanged self.old self.new) }
         ensures no_items { OnErr result (items.new.items ≡ items.old.items) }
@@ -222,7 +222,7 @@ impl Desk {
     fn late(&mut self, who: u32, encoder: ObjRef, items: &mut Vec<Item>) -> Result<Reply, NoMemory>
         ensures setup { self.new.setup ≡ self.old.setup }
         ensures done { IfOk result (λ reply. HasSent self.old self.new who (Late encoder) reply) }
-        ensures items { OnOk result (HasGrown self.old self.new items.old.items items.new.items) }
+        ensures items { OnOk result (HandsOutGrowth self.old self.new items.old.items items.new.items) }
         ensures seats { self.new.seats ≡ self.old.seats }
         ensures history { OnErr result (self.new.history ≡ self.old.history) }
         ensures no_items { OnErr result (items.new.items ≡ items.old.items) }
@@ -243,7 +243,7 @@ impl Desk {
         requires { is_dropped self.old.setup (reverse self.old.history) encoder.number ≡ false }
         ensures setup { self.new.setup ≡ self.old.setup }
         ensures done { IfOk result (λ reply. HasSent self.old self.new who (finish_event recording.targets encoder recording) reply) }
-        ensures items { OnOk result (HasGrown self.old self.new items.old.items items.new.items) }
+        ensures items { OnOk result (HandsOutGrowth self.old self.new items.old.items items.new.items) }
         ensures seats { IfOk result (λ reply. self.new.seats ≡ self.old.seats ++ option_to_list (seat_made self.old.setup.serial (Some (finished_info recording.targets recording)) reply.answer)) }
         ensures back { IfErr result (λ back. back ≡ recording) }
         ensures unchanged { OnErr result (IsUnchanged self.old self.new) }
@@ -272,7 +272,7 @@ impl Desk {
         requires seated { is_some (handle_at self.old.seats number) ≡ true }
         ensures setup { self.new.setup ≡ self.old.setup }
         ensures done { IfOk result (λ reply. HasSent self.old self.new who (finish_of encoder recorder) reply) }
-        ensures items { OnOk result (HasGrown self.old self.new items.old.items items.new.items) }
+        ensures items { OnOk result (HandsOutGrowth self.old self.new items.old.items items.new.items) }
         ensures seats { IfOk result (λ reply. self.new.seats ≡ self.old.seats ++ option_to_list (seat_made self.old.setup.serial (Some (known_of_finish recorder)) reply.answer)) }
         ensures history { OnErr result (self.new.history ≡ self.old.history) }
         ensures reopened { OnErr result (self.new.seats ≡ reopened_at self.old.seats number recorder) }
@@ -300,7 +300,7 @@ impl Desk {
         requires undropped { is_dropped self.old.setup (reverse self.old.history) encoder.reference.number ≡ false }
         ensures setup { self.new.setup ≡ self.old.setup }
         ensures done { IfOk result (λ reply. HasSent self.old self.new who (event_asked (ending_asked encoder)) reply) }
-        ensures items { OnOk result (HasGrown self.old self.new items.old.items items.new.items) }
+        ensures items { OnOk result (HandsOutGrowth self.old self.new items.old.items items.new.items) }
         ensures seats { IfOk result (λ reply. self.new.seats ≡ self.old.seats ++ option_to_list (seat_made self.old.setup.serial (info_asked (ending_asked encoder)) reply.answer)) }
         ensures unchanged { OnErr result (IsUnchanged self.old self.new) }
         ensures no_items { OnErr result (items.new.items ≡ items.old.items) }
@@ -314,7 +314,7 @@ impl Desk {
         requires { is_some (handle_at self.old.seats number) ≡ true }
         ensures setup { self.new.setup ≡ self.old.setup }
         ensures done { IfOk result (λ reply. HasSent self.old self.new who (ending_at self.old.seats number) reply) }
-        ensures items { OnOk result (HasGrown self.old self.new items.old.items items.new.items) }
+        ensures items { OnOk result (HandsOutGrowth self.old self.new items.old.items items.new.items) }
         ensures seats { IfOk result (λ reply. self.new.seats ≡ seats_ended self.old.setup.serial self.old.seats number reply.answer) }
         ensures unchanged { OnErr result (IsUnchanged self.old self.new) }
         ensures no_items { OnErr result (items.new.items ≡ items.old.items) }
@@ -341,7 +341,7 @@ impl Desk {
         ensures setup { self.new.setup ≡ self.old.setup }
         ensures done { IfOk result (λ reply. HasSent self.old self.new who (ending_at self.old.seats encoder) reply) }
         ensures number { IfOk result (λ reply. IsNumber reply.answer (length self.old.seats)) }
-        ensures items { OnOk result (HasGrown self.old self.new items.old.items items.new.items) }
+        ensures items { OnOk result (HandsOutGrowth self.old self.new items.old.items items.new.items) }
         ensures seats { IfOk result (λ reply. self.new.seats ≡ seats_ended self.old.setup.serial self.old.seats encoder reply.answer) }
         ensures found { OnOk result (is_none (handle_at self.old.seats encoder) ≡ false) }
         ensures due { IfErr result (λ error. IsDue error (is_none (handle_at self.old.seats encoder)) false) }
@@ -366,7 +366,7 @@ impl Desk {
         ensures setup { self.new.setup ≡ self.old.setup }
         ensures done { IfOk result (λ reply. HasSent self.old self.new who (event_sent self.old.seats request.now) reply) }
         ensures number { IfOk result (λ reply. IsNumber reply.answer (length self.old.seats)) }
-        ensures items { OnOk result (HasGrown self.old self.new items.old.items items.new.items) }
+        ensures items { OnOk result (HandsOutGrowth self.old self.new items.old.items items.new.items) }
         ensures seats { IfOk result (λ reply. self.new.seats ≡ seats_after self.old.setup.serial self.old.seats request.now reply.answer) }
         ensures found { OnOk result (any_missing self.old.seats (named request.now) ≡ false) }
         ensures due { IfErr result (λ error. IsDue error (any_missing self.old.seats (named request.now)) false) }
@@ -396,7 +396,7 @@ impl Desk {
         ensures setup { self.new.setup ≡ self.old.setup }
         ensures late { IfOk result (λ told. is_some told ≡ is_late_at self.old.seats encoder on) }
         ensures sent { IfOk result (λ told. IfSome told (λ reply. HasSent self.old self.new who (Late (found_at self.old.seats encoder).reference) reply)) }
-        ensures items { IfOk result (λ told. IfSome told (λ _. HasGrown self.old self.new items.old.items items.new.items)) }
+        ensures items { IfOk result (λ told. IfSome told (λ _. HandsOutGrowth self.old self.new items.old.items items.new.items)) }
         ensures as_before { IfOk result (λ told. IfSome told (λ _. self.new.seats ≡ self.old.seats)) }
         ensures kept { IfOk result (λ told. told ≡ None → (self.new.history ≡ self.old.history)
             × (self.new.seats ≡ recorded_at self.old.seats encoder on (map_command (found_at self.old.seats) command.now))

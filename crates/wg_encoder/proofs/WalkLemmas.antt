@@ -1,5 +1,7 @@
 -- What is known of the kept commands after one more.
 use Rattle.std.proofs.Common.{◌≡◌, ℕ, ◌+◌, ◌<◌, ◌==◌, ◌||◌, ◌++◌, inl, inr, Bool, true, false, Option, Some, None, List, [], ◌∷◌, length, get_or, slice_set, map, refl, sym, ◌∙◌, ap, arith, length-append, slice_index_or, is_some}
+use Rattle.std.specs.Global.{Global}
+use Rattle.std.specs.declared.boxed.Box.{Box}
 use Rattle.std.proofs.lemmas.List.{length-set, get_or-set_other}
 use Rattle.std.proofs.lemmas.Grind.{get_or-set_at}
 use Rattle.std.proofs.Common.{◌≢◌}
@@ -89,7 +91,7 @@ begin_does (BeginRenderPass begin) b = refl
 begin_does _ b = absurd (cc)
 
 -- a pass that is begun on an unlocked encoder
-begun : (device : ℕ) (kept : Kept) (command : Command) (walk : Walk) (opened : Opened) → IsWalkOf device kept walk → open_pass kept ≡ None → is_begin command ≡ true → opened.number ≡ begins kept → IsStateOf device command [] opened.state → IsWalkOf device ((Encoder, command) ∷ kept) (record walk { ended = walk.ended ++ false ∷ []; opened = Some opened })
+begun : (device : ℕ) (kept : Kept) (command : Command) (walk : Walk) (opened : Box Opened Global) → IsWalkOf device kept walk → open_pass kept ≡ None → is_begin command ≡ true → opened.value.number ≡ begins kept → IsStateOf device command [] opened.value.state → IsWalkOf device ((Encoder, command) ∷ kept) (record walk { ended = walk.ended ++ false ∷ []; opened = Some opened })
 begun device kept command walk opened m e b n s = record {
   count = rw b (length-append walk.ended (false ∷ []) ∙ omega (arith, m.count));
   ended_is = λ k lt. at_push walk.ended (begins kept) k (has_ended kept) m.count m.ended_is (ended_new kept) (rw b at lt);
@@ -116,7 +118,7 @@ command_free device kept command walk done m e b d = record {
     next : NextVerdict device walk command ≡ verdict device ((Encoder, command) ∷ kept)
     next = rw e (rw b (rw m.verdict_is (rw m.depth_is refl)))
 
-pub walk_begun : (device : ℕ) (kept : Kept) (command : Command) (walk : Walk) (opened : Opened) → IsWalkOf device kept walk → is_some (open_pass kept) ≡ false → is_begin command ≡ true → opened.number ≡ begins kept → IsStateOf device command [] opened.state → IsWalkOf device ((Encoder, command) ∷ kept) (record walk { ended = walk.ended ++ false ∷ []; opened = Some opened })
+pub walk_begun : (device : ℕ) (kept : Kept) (command : Command) (walk : Walk) (opened : Box Opened Global) → IsWalkOf device kept walk → is_some (open_pass kept) ≡ false → is_begin command ≡ true → opened.value.number ≡ begins kept → IsStateOf device command [] opened.value.state → IsWalkOf device ((Encoder, command) ∷ kept) (record walk { ended = walk.ended ++ false ∷ []; opened = Some opened })
 walk_begun device kept command walk opened m f b n s = begun device kept command walk opened m (none_is (open_pass kept) f) b n s
 
 pub walk_command : (device : ℕ) (kept : Kept) (command : Command) (walk : Walk) (done : Done) → IsWalkOf device kept walk → is_some (open_pass kept) ≡ false → is_begin command ≡ false → (option_or walk.verdict (first_unmet (command_rules device walk.depth command)) ≡ None → done ≡ done_by_encoder walk.done (encoder_does command)) → IsWalkOf device ((Encoder, command) ∷ kept) (record walk { done = done; verdict = option_or walk.verdict (first_unmet (command_rules device walk.depth command)); depth = depth_after walk.depth command })
@@ -126,13 +128,13 @@ open_some : (opened : Option PassSoFar) (pass : ℕ) → is_open opened pass ≡
 open_some None pass h = absurd (cc)
 open_some (Some q) pass h = (q, refl)
 
-done_after : (device : ℕ) (kept : Kept) (q : PassSoFar) (command : Command) (walk : Walk) (old new : Opened) (after : Done) (rule : Option ℕ) → IsWalkOf device kept walk → open_pass kept ≡ Some q → IsOpenOf device (Some q) (Some old) → IsNext device command old new walk.done after rule → verdict device kept ≡ None → pass_rule device q.begin (command ∷ q.earlier) ≡ None → after ≡ record { clash = first_clash (usage_scopes kept ++ map scope_in (option_to_list (pass_does q.begin q.earlier command))); deeds = map deed_of (doings kept ++ option_to_list (pass_does q.begin q.earlier command)) }
+done_after : (device : ℕ) (kept : Kept) (q : PassSoFar) (command : Command) (walk : Walk) (old new : Box Opened Global) (after : Done) (rule : Option ℕ) → IsWalkOf device kept walk → open_pass kept ≡ Some q → IsOpenOf device (Some q) (Some old) → IsNext device command old.value new.value walk.done after rule → verdict device kept ≡ None → pass_rule device q.begin (command ∷ q.earlier) ≡ None → after ≡ record { clash = first_clash (usage_scopes kept ++ map scope_in (option_to_list (pass_does q.begin q.earlier command))); deeds = map deed_of (doings kept ++ option_to_list (pass_does q.begin q.earlier command)) }
 done_after device kept q command walk old new after rule m e o next v r =
     (next.taken q.begin q.earlier o.1).done_is r
     ∙ (ap (λ done. done_by_pass done (pass_does q.begin q.earlier command)) (m.done_is v (rw e (or_first _ _ r)))
     ∙ sym (after_pass (usage_scopes kept) (doings kept) (pass_does q.begin q.earlier command)))
 
-inside : (device : ℕ) (kept : Kept) (pass : ℕ) (q : PassSoFar) (command : Command) (walk : Walk) (old new : Opened) (after : Done) (rule : Option ℕ) → IsWalkOf device kept walk → open_pass kept ≡ Some q → pass == q.number ≡ true → is_end command ≡ false → IsOpenOf device (Some q) (Some old) → IsNext device command old new walk.done after rule → IsWalkOf device ((Pass pass, command) ∷ kept) (record walk { opened = Some new; done = after })
+inside : (device : ℕ) (kept : Kept) (pass : ℕ) (q : PassSoFar) (command : Command) (walk : Walk) (old new : Box Opened Global) (after : Done) (rule : Option ℕ) → IsWalkOf device kept walk → open_pass kept ≡ Some q → pass == q.number ≡ true → is_end command ≡ false → IsOpenOf device (Some q) (Some old) → IsNext device command old.value new.value walk.done after rule → IsWalkOf device ((Pass pass, command) ∷ kept) (record walk { opened = Some new; done = after })
 inside device kept pass q command walk old new after rule m e h b o next = record {
   count = m.count;
   ended_is = λ n lt. m.ended_is n lt ∙ rw e (rw h (rw b refl));
@@ -149,7 +151,7 @@ at_set_by false marks p n d e lt each = let other : n ≢ p = grind (arith, nat_
 at_set : (marks : List Bool) (p n c : ℕ) (d : ℕ → Bool) → length marks ≡ c → p < c → ((k : ℕ) → k < c → slice_index_or marks k false ≡ d k) → n < c → slice_index_or (slice_set marks p true) n false ≡ (p == n) || d n
 at_set marks p n c d len lt each below = at_set_by (p == n) marks p n (d n) refl (omega (arith, len, lt)) (each n below)
 
-ended : (device : ℕ) (kept : Kept) (pass : ℕ) (q : PassSoFar) (command : Command) (walk : Walk) (old new : Opened) (after : Done) (rule : Option ℕ) → IsWalkOf device kept walk → open_pass kept ≡ Some q → pass == q.number ≡ true → is_end command ≡ true → IsOpenOf device (Some q) (Some old) → IsNext device command old new walk.done after rule → pass < begins kept → IsWalkOf device ((Pass pass, command) ∷ kept) (record walk { opened = None; done = after; verdict = option_or walk.verdict rule; ended = slice_set walk.ended pass true })
+ended : (device : ℕ) (kept : Kept) (pass : ℕ) (q : PassSoFar) (command : Command) (walk : Walk) (old new : Box Opened Global) (after : Done) (rule : Option ℕ) → IsWalkOf device kept walk → open_pass kept ≡ Some q → pass == q.number ≡ true → is_end command ≡ true → IsOpenOf device (Some q) (Some old) → IsNext device command old.value new.value walk.done after rule → pass < begins kept → IsWalkOf device ((Pass pass, command) ∷ kept) (record walk { opened = None; done = after; verdict = option_or walk.verdict rule; ended = slice_set walk.ended pass true })
 ended device kept pass q command walk old new after rule m e h b o next lt = record {
   count = length-set walk.ended pass true ∙ m.count;
   ended_is = λ n below. at_set walk.ended pass n (begins kept) (has_ended kept) m.count lt m.ended_is below ∙ rw e (rw h (rw b refl));
@@ -159,17 +161,17 @@ ended device kept pass q command walk old new after rule m e h b o next lt = rec
   done_is = λ v r. rw e (rw h (done_after device kept q command walk old new after rule m e o next (or_first _ _ v) (let x = or_second (verdict device kept) _ v in let y = rw e at x in let z = rw h at y in rw b at z)));
 }
 
-opened_is : (device : ℕ) (opened : Option PassSoFar) (q : PassSoFar) (held : Option Opened) (old : Opened) → IsOpenOf device opened held → opened ≡ Some q → held ≡ Some old → IsOpenOf device (Some q) (Some old)
+opened_is : (device : ℕ) (opened : Option PassSoFar) (q : PassSoFar) (held : Option (Box Opened Global)) (old : Box Opened Global) → IsOpenOf device opened held → opened ≡ Some q → held ≡ Some old → IsOpenOf device (Some q) (Some old)
 opened_is device opened q held old o e h = let x = rw e at o in rw h at x
 
 -- a command of the open pass that is no end
-pub walk_inside : (device : ℕ) (kept : Kept) (pass : ℕ) (command : Command) (walk : Walk) (old new : Opened) (after : Done) (rule : Option ℕ) → IsWalkOf device kept walk → walk.opened ≡ Some old → is_open (open_pass kept) pass ≡ true → is_end command ≡ false → IsNext device command old new walk.done after rule → IsWalkOf device ((Pass pass, command) ∷ kept) (record walk { opened = Some new; done = after })
+pub walk_inside : (device : ℕ) (kept : Kept) (pass : ℕ) (command : Command) (walk : Walk) (old new : Box Opened Global) (after : Done) (rule : Option ℕ) → IsWalkOf device kept walk → walk.opened ≡ Some old → is_open (open_pass kept) pass ≡ true → is_end command ≡ false → IsNext device command old.value new.value walk.done after rule → IsWalkOf device ((Pass pass, command) ∷ kept) (record walk { opened = Some new; done = after })
 walk_inside device kept pass command walk old new after rule m h i b next =
     let q = open_some (open_pass kept) pass i in
     inside device kept pass q.0 command walk old new after rule m q.1 (rw q.1 at i) b (opened_is device (open_pass kept) q.0 walk.opened old m.open_is q.1 h) next
 
 -- the end of the open pass
-pub walk_ended : (device : ℕ) (kept : Kept) (pass : ℕ) (command : Command) (walk : Walk) (old new : Opened) (after : Done) (rule : Option ℕ) → IsWalkOf device kept walk → walk.opened ≡ Some old → is_open (open_pass kept) pass ≡ true → is_end command ≡ true → IsNext device command old new walk.done after rule → IsWalkOf device ((Pass pass, command) ∷ kept) (record walk { opened = None; done = after; verdict = option_or walk.verdict rule; ended = slice_set walk.ended pass true })
+pub walk_ended : (device : ℕ) (kept : Kept) (pass : ℕ) (command : Command) (walk : Walk) (old new : Box Opened Global) (after : Done) (rule : Option ℕ) → IsWalkOf device kept walk → walk.opened ≡ Some old → is_open (open_pass kept) pass ≡ true → is_end command ≡ true → IsNext device command old.value new.value walk.done after rule → IsWalkOf device ((Pass pass, command) ∷ kept) (record walk { opened = None; done = after; verdict = option_or walk.verdict rule; ended = slice_set walk.ended pass true })
 walk_ended device kept pass command walk old new after rule m h i b next =
     let q = open_some (open_pass kept) pass i in
     ended device kept pass q.0 command walk old new after rule m q.1 (rw q.1 at i) b (opened_is device (open_pass kept) q.0 walk.opened old m.open_is q.1 h) next (open_number_below kept pass i)

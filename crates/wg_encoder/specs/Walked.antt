@@ -1,6 +1,8 @@
 -- What a recorder keeps in place of a walk over its commands, and that it is what the walk finds (WebGPU, "Command Encoding").
 use Rattle.std.specs.Prelude.{◌≡◌, ℕ, ◌<◌, false, List, ◌∷◌, map, Option, Some, None, length, slice_index_or}
 use Rattle.std.specs.Option.{option_or}
+use Rattle.std.specs.Global.{Global}
+use Rattle.std.specs.declared.boxed.Box.{Box}
 use Rattle.wg_types.specs.Commands.{Command, bracket, named_on}
 use Rattle.wg_types.specs.declared.commands.On.{On}
 use Rattle.wg_types.specs.declared.render.TargetInfo.{TargetInfo}
@@ -57,9 +59,9 @@ IsStateOf device begin earlier (Compute set) = (pass_rule device begin earlier �
 IsStateOf device begin earlier (Render set) = (pass_rule device begin earlier ≡ None) × IsRenderOf begin earlier set
 
 -- The pass that is kept as open is the one that is, with its state, or none is.
-abbrev pub IsOpenOf : ℕ → Option PassSoFar → Option Opened → Type 0
+abbrev pub IsOpenOf : ℕ → Option PassSoFar → Option (Box Opened Global) → Type 0
 IsOpenOf device None None = Unit {0}
-IsOpenOf device (Some pass) (Some opened) = (opened.number ≡ pass.number) × IsStateOf device pass.begin pass.earlier opened.state
+IsOpenOf device (Some pass) (Some opened) = (opened.value.number ≡ pass.number) × IsStateOf device pass.begin pass.earlier opened.value.state
 IsOpenOf device None (Some opened) = ⊥
 IsOpenOf device (Some pass) None = ⊥
 
@@ -108,4 +110,4 @@ IsDrawnOf device (Some targets) kept state = IsBundleOf device targets (map (λ 
 -- What is known of kept commands, which are those of a bundle encoder where there are targets.
 abbrev pub IsKnownOf : ℕ → Option TargetInfo → Kept → Known → Type 0
 IsKnownOf device targets kept (known.Encoder walk) = (targets ≡ None) × IsWalkOf device kept walk
-IsKnownOf device targets kept (known.Bundle state) = IsDrawnOf device targets kept state
+IsKnownOf device targets kept (known.Bundle state) = IsDrawnOf device targets kept state.value

@@ -23,7 +23,7 @@ use wg_types::parts::Part;
 #[derive(Drop)]
 pub enum Known {
     Encoder(Walk),
-    Bundle(BundleState),
+    Bundle(Box<BundleState>),
 }
 
 /// The least clashing part of the first usage scope of an encoder that has one, where there is neither a
@@ -64,7 +64,7 @@ impl Known {
             return Ok(Known::Encoder(Walk::new(alloc)));
         };
         let state = BundleState::new(alloc, targets)?;
-        Ok(Known::Bundle(state))
+        Ok(Known::Bundle(Box::new(alloc, state)?))
     }
 
     /// Notes a command.

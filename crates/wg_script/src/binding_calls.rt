@@ -1,7 +1,7 @@
 //! Reads the calls on samplers, layouts, bind groups and compute pipelines, and the one that gets a layout of
 //! a pipeline: a function for each, with its keys.
 ghost use Rattle.serde_json.specs.Find.{get};
-ghost use Rattle.serde_json.specs.View.{view};
+ghost use Rattle.wg_json.specs.View.{view};
 ghost use Rattle.wg_script.specs.Giving.{Gives};
 ghost use Rattle.wg_script.specs.BindingCalls.{create_sampler_of, create_group_layout_of, create_pipeline_layout_of, create_group_of, layout_at, create_compute_of, get_group_layout_of};
 
@@ -12,8 +12,8 @@ use crate::lists::{list_at, list_or_empty};
 use crate::name::Name;
 use crate::values::{Refusal, check_keys, name_at, reading, short_at};
 use crate::words::word_or;
-use serde_json::Value;
 use std::alloc::Global;
+use wg_json::Value;
 use wg_types::bindings::SamplerKind;
 use wg_types::groups::Interface;
 use wg_types::requests::RequestOf;
@@ -21,7 +21,7 @@ use wg_types::shared::Shared;
 
 /// Reads `createSampler`.
 #[tactic(auto, unfolding(crate::specs::BindingCalls::create_sampler_of))]
-pub fn create_sampler(alloc: Global, call: &Value) -> Result<Call, Refusal>
+pub fn create_sampler(alloc: Global, call: &Value<'_>) -> Result<Call, Refusal>
     ensures { Gives result (create_sampler_of (view call.now)) }
 {
     reading!(call:
@@ -32,7 +32,7 @@ pub fn create_sampler(alloc: Global, call: &Value) -> Result<Call, Refusal>
 
 /// Reads `createBindGroupLayout`.
 #[tactic(auto, unfolding(crate::specs::BindingCalls::create_group_layout_of))]
-pub fn create_bind_group_layout(alloc: Global, call: &Value) -> Result<Call, Refusal>
+pub fn create_bind_group_layout(alloc: Global, call: &Value<'_>) -> Result<Call, Refusal>
     ensures { Gives result (create_group_layout_of (view call.now)) }
 {
     reading!(call:
@@ -43,7 +43,7 @@ pub fn create_bind_group_layout(alloc: Global, call: &Value) -> Result<Call, Ref
 
 /// Reads `createPipelineLayout`.
 #[tactic(auto, unfolding(crate::specs::BindingCalls::create_pipeline_layout_of))]
-pub fn create_pipeline_layout(alloc: Global, call: &Value) -> Result<Call, Refusal>
+pub fn create_pipeline_layout(alloc: Global, call: &Value<'_>) -> Result<Call, Refusal>
     ensures { Gives result (create_pipeline_layout_of (view call.now)) }
 {
     reading!(call:
@@ -54,7 +54,7 @@ pub fn create_pipeline_layout(alloc: Global, call: &Value) -> Result<Call, Refus
 
 /// Reads `createBindGroup`.
 #[tactic(auto, unfolding(crate::specs::BindingCalls::create_group_of))]
-pub fn create_bind_group(alloc: Global, call: &Value) -> Result<Call, Refusal>
+pub fn create_bind_group(alloc: Global, call: &Value<'_>) -> Result<Call, Refusal>
     ensures { Gives result (create_group_of (view call.now)) }
 {
     reading!(call:
@@ -66,7 +66,7 @@ pub fn create_bind_group(alloc: Global, call: &Value) -> Result<Call, Refusal>
 
 /// The name of a pipeline layout, under a key that is needed, or none where that holds the word `auto`: the
 /// pipeline is to derive its layout itself. Script rule 8 where the value is no text.
-pub fn layout_at(alloc: Global, object: &Value, key: &str) -> Result<Option<Name>, Refusal>
+pub fn layout_at(alloc: Global, object: &Value<'_>, key: &str) -> Result<Option<Name>, Refusal>
     ensures { Gives result (layout_at (get key.now (view object.now))) }
 {
     match object.get(key).and_then(Value::as_str) {
@@ -78,7 +78,7 @@ pub fn layout_at(alloc: Global, object: &Value, key: &str) -> Result<Option<Name
 
 /// Reads `createComputePipeline`.
 #[tactic(auto, unfolding(crate::specs::BindingCalls::create_compute_of))]
-pub fn create_compute_pipeline(alloc: Global, call: &Value) -> Result<Call, Refusal>
+pub fn create_compute_pipeline(alloc: Global, call: &Value<'_>) -> Result<Call, Refusal>
     ensures { Gives result (create_compute_of (view call.now)) }
 {
     reading!(call:
@@ -90,7 +90,7 @@ pub fn create_compute_pipeline(alloc: Global, call: &Value) -> Result<Call, Refu
 
 /// Reads `getBindGroupLayout`.
 #[tactic(auto, unfolding(crate::specs::BindingCalls::get_group_layout_of))]
-pub fn get_bind_group_layout(alloc: Global, call: &Value) -> Result<Call, Refusal>
+pub fn get_bind_group_layout(alloc: Global, call: &Value<'_>) -> Result<Call, Refusal>
     ensures { Gives result (get_group_layout_of (view call.now)) }
 {
     reading!(call:

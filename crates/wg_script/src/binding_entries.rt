@@ -1,7 +1,7 @@
 //! Reads the objects inside calls on bindings: kinds of bindings, and the entries of lists.
 ghost use Rattle.std.specs.Prelude.{◌≡◌, ◌++◌, map};
 ghost use Rattle.serde_json.specs.Find.{get};
-ghost use Rattle.serde_json.specs.View.{view};
+ghost use Rattle.wg_json.specs.View.{view};
 ghost use Rattle.wg_script.specs.Giving.{Gives};
 ghost use Rattle.wg_script.specs.Readers.{inner_by};
 ghost use Rattle.wg_script.specs.Lists.{list_or_empty};
@@ -17,8 +17,8 @@ use crate::values::{
     whole_or,
 };
 use crate::words::{word_at, word_or};
-use serde_json::Value;
 use std::alloc::Global;
+use wg_json::Value;
 use wg_types::bindings::{
     BindingKind, GroupEntryOf, IfaceEntry, LayoutEntry, ResourceOf, SamplerKind, Stage,
     StorageAccess,
@@ -28,7 +28,7 @@ use wg_types::items::Items;
 use wg_types::textures::ViewDim;
 
 /// Script rule 8: refuses what is no object with just these keys and those of its kind.
-fn check_kinded(object: &Value, beside: &[&str], word: KindWord) -> Result<(), u8>
+fn check_kinded(object: &Value<'_>, beside: &[&str], word: KindWord) -> Result<(), u8>
     ensures { result ≡ check_inner (map (λ n. n.now) beside.now ++ (kind_keys word).needed)
         (kind_keys word).optional (view object.now) }
 {
@@ -43,7 +43,7 @@ fn check_kinded(object: &Value, beside: &[&str], word: KindWord) -> Result<(), u
 }
 
 /// Reads the keys of a kind beside that of its word.
-fn kind_of(object: &Value, word: KindWord) -> Result<BindingKind, u8>
+fn kind_of(object: &Value<'_>, word: KindWord) -> Result<BindingKind, u8>
     ensures { result ≡ (kind_keys word).read (view object.now) }
 {
     match word {
@@ -72,7 +72,7 @@ impl ReadItem<LayoutEntry> for LayoutEntry {
     ghost reads = { layout_entry_of };
 
     #[tactic(auto, unfolding(crate::specs::BindingEntries::layout_entry_of))]
-    fn read_item(_alloc: Global, value: &Value) -> Result<LayoutEntry, Refusal> {
+    fn read_item(_alloc: Global, value: &Value<'_>) -> Result<LayoutEntry, Refusal> {
         let word = word_at(value, "kind", &KINDS)?;
         check_kinded(value, &["binding", "visibility", "kind"], word)?;
         let binding = short_at(value, "binding")?;
@@ -91,7 +91,7 @@ impl ReadItem<IfaceEntry> for IfaceEntry {
     ghost reads = { iface_entry_of };
 
     #[tactic(auto, unfolding(crate::specs::BindingEntries::iface_entry_of))]
-    fn read_item(_alloc: Global, value: &Value) -> Result<IfaceEntry, Refusal> {
+    fn read_item(_alloc: Global, value: &Value<'_>) -> Result<IfaceEntry, Refusal> {
         let word = word_at(value, "kind", &KINDS)?;
         check_kinded(value, &["group", "binding", "kind"], word)?;
         let group = short_at(value, "group")?;
@@ -113,7 +113,7 @@ impl ReadItem<IfaceEntry> for Staged {
     ghost reads = { staged_entry_of };
 
     #[tactic(auto, unfolding(crate::specs::BindingEntries::staged_entry_of))]
-    fn read_item(_alloc: Global, value: &Value) -> Result<IfaceEntry, Refusal> {
+    fn read_item(_alloc: Global, value: &Value<'_>) -> Result<IfaceEntry, Refusal> {
         let word = word_at(value, "kind", &KINDS)?;
         check_kinded(value, &["group", "binding", "stage", "kind"], word)?;
         let group = short_at(value, "group")?;
@@ -132,7 +132,7 @@ impl ReadItem<IfaceEntry> for Staged {
 /// What the shaders of a render pipeline use, or nothing where the key is left out.
 pub fn staged_or_empty(
     alloc: Global,
-    object: &Value,
+    object: &Value<'_>,
     key: &str,
 ) -> Result<Items<IfaceEntry>, Refusal>
     ensures { Gives result (list_or_empty staged_entry_of (get key.now (view object.now))) }
@@ -140,7 +140,7 @@ pub fn staged_or_empty(
     list_as_or_empty::<IfaceEntry, Staged>(alloc, object, key)
 }
 
-fn buffer_entry(alloc: Global, value: &Value) -> Result<GroupEntryOf<Name>, Refusal>
+fn buffer_entry(alloc: Global, value: &Value<'_>) -> Result<GroupEntryOf<Name>, Refusal>
     ensures { Gives result (inner_by buffer_entry_keys (view value.now)) }
 {
     reading!(inside value:
@@ -151,7 +151,7 @@ fn buffer_entry(alloc: Global, value: &Value) -> Result<GroupEntryOf<Name>, Refu
         => GroupEntryOf { binding, resource: ResourceOf::Buffer { buffer, offset, size } })
 }
 
-fn view_entry(alloc: Global, value: &Value) -> Result<GroupEntryOf<Name>, Refusal>
+fn view_entry(alloc: Global, value: &Value<'_>) -> Result<GroupEntryOf<Name>, Refusal>
     ensures { Gives result (inner_by view_entry_keys (view value.now)) }
 {
     reading!(inside value:
@@ -160,7 +160,7 @@ fn view_entry(alloc: Global, value: &Value) -> Result<GroupEntryOf<Name>, Refusa
         => GroupEntryOf { binding, resource: ResourceOf::View { view } })
 }
 
-fn sampler_entry(alloc: Global, value: &Value) -> Result<GroupEntryOf<Name>, Refusal>
+fn sampler_entry(alloc: Global, value: &Value<'_>) -> Result<GroupEntryOf<Name>, Refusal>
     ensures { Gives result (inner_by sampler_entry_keys (view value.now)) }
 {
     reading!(inside value:
@@ -173,7 +173,7 @@ impl ReadItem<GroupEntryOf<Name>> for GroupEntryOf<Name> {
     ghost reads = { group_entry_of };
 
     #[tactic(auto, unfolding(crate::specs::BindingEntries::group_entry_of))]
-    fn read_item(alloc: Global, value: &Value) -> Result<GroupEntryOf<Name>, Refusal> {
+    fn read_item(alloc: Global, value: &Value<'_>) -> Result<GroupEntryOf<Name>, Refusal> {
         if value.get("buffer").is_some() {
             buffer_entry(alloc, value)
         } else if value.get("view").is_some() {

@@ -1,5 +1,5 @@
 //! Reads the calls on render bundles: a function for each, with its keys.
-ghost use Rattle.serde_json.specs.View.{view};
+ghost use Rattle.wg_json.specs.View.{view};
 ghost use Rattle.wg_script.specs.Giving.{Gives};
 ghost use Rattle.wg_script.specs.BundleCalls.{create_bundle_encoder_of, finish_bundle_of, execute_bundles_of};
 
@@ -9,8 +9,8 @@ use crate::lists::list_at;
 use crate::texture_words::FORMATS;
 use crate::values::{Refusal, check_keys, flag_or, name_at, reading, short_or};
 use crate::words::word_if;
-use serde_json::Value;
 use std::alloc::Global;
+use wg_json::Value;
 use wg_types::commands::CommandOf;
 use wg_types::render::TargetInfo;
 use wg_types::requests::RequestOf;
@@ -18,7 +18,7 @@ use wg_types::shared::Shared;
 
 /// Reads `createBundleEncoder`.
 #[tactic(auto, unfolding(crate::specs::BundleCalls::create_bundle_encoder_of))]
-pub fn create_bundle_encoder(alloc: Global, call: &Value) -> Result<Call, Refusal>
+pub fn create_bundle_encoder(alloc: Global, call: &Value<'_>) -> Result<Call, Refusal>
     ensures { Gives result (create_bundle_encoder_of (view call.now)) }
 {
     reading!(call:
@@ -41,7 +41,7 @@ pub fn create_bundle_encoder(alloc: Global, call: &Value) -> Result<Call, Refusa
 
 /// Reads `finishBundle`.
 #[tactic(auto, unfolding(crate::specs::BundleCalls::finish_bundle_of))]
-pub fn finish_bundle(alloc: Global, call: &Value) -> Result<Call, Refusal>
+pub fn finish_bundle(alloc: Global, call: &Value<'_>) -> Result<Call, Refusal>
     ensures { Gives result (finish_bundle_of (view call.now)) }
 {
     reading!(call:
@@ -52,7 +52,7 @@ pub fn finish_bundle(alloc: Global, call: &Value) -> Result<Call, Refusal>
 
 /// Reads `executeBundles`.
 #[tactic(auto, unfolding(crate::specs::BundleCalls::execute_bundles_of))]
-pub fn execute_bundles(alloc: Global, call: &Value) -> Result<Call, Refusal>
+pub fn execute_bundles(alloc: Global, call: &Value<'_>) -> Result<Call, Refusal>
     ensures { Gives result (execute_bundles_of (view call.now)) }
 {
     reading!(call:

@@ -1,6 +1,9 @@
 //! Reads a call: a function for each, with its keys. Those of calls on textures, bindings, compute passes,
 //! rendering, queries, bundles and canvases stand in files of their own.
-ghost use Rattle.serde_json.specs.View.{view};
+ghost use Rattle.std.specs.Prelude.{◌≡◌, bytes_eq};
+ghost use Rattle.std.specs.List.{find};
+ghost use Rattle.wg_json.specs.View.{view};
+ghost use Rattle.wg_types.specs.Words.{word_text, word_of};
 ghost use Rattle.wg_script.specs.Giving.{Gives};
 ghost use Rattle.wg_script.specs.Calls.{call_of, call_as, create_buffer_of, create_encoder_of, finish_of, submit_of, write_buffer_of, destroy_of, drop_of, complete_of, push_error_scope_of, keyless_of, pop_error_scope_of, work_done_of, lose_of, map_async_of, unmap_of, copy_buffer_to_buffer_of, clear_buffer_of, push_debug_group_of, pop_debug_group_of};
 
@@ -33,8 +36,8 @@ use crate::values::{
     whole_or,
 };
 use crate::words::word_at;
-use serde_json::Value;
 use std::alloc::Global;
+use wg_json::Value;
 use wg_types::commands::CommandOf;
 use wg_types::handles::BufferInfo;
 use wg_types::replies::Filter;
@@ -49,7 +52,7 @@ const FILTERS: [(&str, Filter); 3] = [
 ];
 
 #[tactic(auto, unfolding(crate::specs::Calls::create_buffer_of))]
-fn create_buffer(alloc: Global, call: &Value) -> Result<Call, Refusal>
+fn create_buffer(alloc: Global, call: &Value<'_>) -> Result<Call, Refusal>
     ensures { Gives result (create_buffer_of (view call.now)) }
 {
     reading!(call:
@@ -61,7 +64,7 @@ fn create_buffer(alloc: Global, call: &Value) -> Result<Call, Refusal>
 }
 
 #[tactic(auto, unfolding(crate::specs::Calls::create_encoder_of))]
-fn create_encoder(alloc: Global, call: &Value) -> Result<Call, Refusal>
+fn create_encoder(alloc: Global, call: &Value<'_>) -> Result<Call, Refusal>
     ensures { Gives result (create_encoder_of (view call.now)) }
 {
     reading!(call:
@@ -70,7 +73,7 @@ fn create_encoder(alloc: Global, call: &Value) -> Result<Call, Refusal>
 }
 
 #[tactic(auto, unfolding(crate::specs::Calls::finish_of))]
-fn finish(alloc: Global, call: &Value) -> Result<Call, Refusal>
+fn finish(alloc: Global, call: &Value<'_>) -> Result<Call, Refusal>
     ensures { Gives result (finish_of (view call.now)) }
 {
     reading!(call:
@@ -80,7 +83,7 @@ fn finish(alloc: Global, call: &Value) -> Result<Call, Refusal>
 }
 
 #[tactic(auto, unfolding(crate::specs::Calls::submit_of))]
-fn submit(alloc: Global, call: &Value) -> Result<Call, Refusal>
+fn submit(alloc: Global, call: &Value<'_>) -> Result<Call, Refusal>
     ensures { Gives result (submit_of (view call.now)) }
 {
     reading!(call:
@@ -89,7 +92,7 @@ fn submit(alloc: Global, call: &Value) -> Result<Call, Refusal>
 }
 
 #[tactic(auto, unfolding(crate::specs::Calls::write_buffer_of))]
-fn write_buffer(alloc: Global, call: &Value) -> Result<Call, Refusal>
+fn write_buffer(alloc: Global, call: &Value<'_>) -> Result<Call, Refusal>
     ensures { Gives result (write_buffer_of (view call.now)) }
 {
     reading!(call:
@@ -100,7 +103,7 @@ fn write_buffer(alloc: Global, call: &Value) -> Result<Call, Refusal>
 }
 
 #[tactic(auto, unfolding(crate::specs::Calls::destroy_of))]
-fn destroy(alloc: Global, call: &Value) -> Result<Call, Refusal>
+fn destroy(alloc: Global, call: &Value<'_>) -> Result<Call, Refusal>
     ensures { Gives result (destroy_of (view call.now)) }
 {
     reading!(call:
@@ -109,7 +112,7 @@ fn destroy(alloc: Global, call: &Value) -> Result<Call, Refusal>
 }
 
 #[tactic(auto, unfolding(crate::specs::Calls::drop_of))]
-fn drop_call(alloc: Global, call: &Value) -> Result<Call, Refusal>
+fn drop_call(alloc: Global, call: &Value<'_>) -> Result<Call, Refusal>
     ensures { Gives result (drop_of (view call.now)) }
 {
     reading!(call:
@@ -118,7 +121,7 @@ fn drop_call(alloc: Global, call: &Value) -> Result<Call, Refusal>
 }
 
 #[tactic(auto, unfolding(crate::specs::Calls::complete_of))]
-fn complete(call: &Value) -> Result<Call, Refusal>
+fn complete(call: &Value<'_>) -> Result<Call, Refusal>
     ensures { Gives result (complete_of (view call.now)) }
 {
     reading!(call:
@@ -127,7 +130,7 @@ fn complete(call: &Value) -> Result<Call, Refusal>
 }
 
 #[tactic(auto, unfolding(crate::specs::Calls::push_error_scope_of))]
-fn push_error_scope(call: &Value) -> Result<Call, Refusal>
+fn push_error_scope(call: &Value<'_>) -> Result<Call, Refusal>
     ensures { Gives result (push_error_scope_of (view call.now)) }
 {
     reading!(call:
@@ -136,35 +139,35 @@ fn push_error_scope(call: &Value) -> Result<Call, Refusal>
 }
 
 /// Reads a call of the device with no key but that of its word.
-fn keyless(call: &Value, request: RequestOf<Name>) -> Result<Call, Refusal>
+fn keyless(call: &Value<'_>, request: RequestOf<Name>) -> Result<Call, Refusal>
     ensures { Gives result (keyless_of request (view call.now)) }
 {
     reading!(call: => asking(request))
 }
 
 #[tactic(auto, unfolding(crate::specs::Calls::pop_error_scope_of))]
-fn pop_error_scope(call: &Value) -> Result<Call, Refusal>
+fn pop_error_scope(call: &Value<'_>) -> Result<Call, Refusal>
     ensures { Gives result (pop_error_scope_of (view call.now)) }
 {
     keyless(call, RequestOf::PopErrorScope)
 }
 
 #[tactic(auto, unfolding(crate::specs::Calls::work_done_of))]
-fn work_done(call: &Value) -> Result<Call, Refusal>
+fn work_done(call: &Value<'_>) -> Result<Call, Refusal>
     ensures { Gives result (work_done_of (view call.now)) }
 {
     keyless(call, RequestOf::WorkDone)
 }
 
 #[tactic(auto, unfolding(crate::specs::Calls::lose_of))]
-fn lose(call: &Value) -> Result<Call, Refusal>
+fn lose(call: &Value<'_>) -> Result<Call, Refusal>
     ensures { Gives result (lose_of (view call.now)) }
 {
     keyless(call, RequestOf::Lose)
 }
 
 #[tactic(auto, unfolding(crate::specs::Calls::map_async_of))]
-fn map_async(alloc: Global, call: &Value) -> Result<Call, Refusal>
+fn map_async(alloc: Global, call: &Value<'_>) -> Result<Call, Refusal>
     ensures { Gives result (map_async_of (view call.now)) }
 {
     reading!(call:
@@ -176,7 +179,7 @@ fn map_async(alloc: Global, call: &Value) -> Result<Call, Refusal>
 }
 
 #[tactic(auto, unfolding(crate::specs::Calls::unmap_of))]
-fn unmap(alloc: Global, call: &Value) -> Result<Call, Refusal>
+fn unmap(alloc: Global, call: &Value<'_>) -> Result<Call, Refusal>
     ensures { Gives result (unmap_of (view call.now)) }
 {
     reading!(call:
@@ -185,7 +188,7 @@ fn unmap(alloc: Global, call: &Value) -> Result<Call, Refusal>
 }
 
 #[tactic(auto, unfolding(crate::specs::Calls::copy_buffer_to_buffer_of))]
-fn copy_buffer_to_buffer(alloc: Global, call: &Value) -> Result<Call, Refusal>
+fn copy_buffer_to_buffer(alloc: Global, call: &Value<'_>) -> Result<Call, Refusal>
     ensures { Gives result (copy_buffer_to_buffer_of (view call.now)) }
 {
     reading!(call:
@@ -199,7 +202,7 @@ fn copy_buffer_to_buffer(alloc: Global, call: &Value) -> Result<Call, Refusal>
 }
 
 #[tactic(auto, unfolding(crate::specs::Calls::clear_buffer_of))]
-fn clear_buffer(alloc: Global, call: &Value) -> Result<Call, Refusal>
+fn clear_buffer(alloc: Global, call: &Value<'_>) -> Result<Call, Refusal>
     ensures { Gives result (clear_buffer_of (view call.now)) }
 {
     reading!(call:
@@ -211,21 +214,21 @@ fn clear_buffer(alloc: Global, call: &Value) -> Result<Call, Refusal>
 }
 
 #[tactic(auto, unfolding(crate::specs::Calls::push_debug_group_of))]
-fn push_debug_group(alloc: Global, call: &Value) -> Result<Call, Refusal>
+fn push_debug_group(alloc: Global, call: &Value<'_>) -> Result<Call, Refusal>
     ensures { Gives result (push_debug_group_of (view call.now)) }
 {
     bare(alloc, call, CommandOf::PushDebugGroup)
 }
 
 #[tactic(auto, unfolding(crate::specs::Calls::pop_debug_group_of))]
-fn pop_debug_group(alloc: Global, call: &Value) -> Result<Call, Refusal>
+fn pop_debug_group(alloc: Global, call: &Value<'_>) -> Result<Call, Refusal>
     ensures { Gives result (pop_debug_group_of (view call.now)) }
 {
     bare(alloc, call, CommandOf::PopDebugGroup)
 }
 
 /// Reads a call that this word names.
-fn call_as(alloc: Global, word: Word, call: &Value) -> Result<Call, Refusal>
+fn call_as(alloc: Global, word: Word, call: &Value<'_>) -> Result<Call, Refusal>
     ensures { Gives result (call_as word (view call.now)) }
 {
     match word {
@@ -287,11 +290,48 @@ fn call_as(alloc: Global, word: Word, call: &Value) -> Result<Call, Refusal>
     }
 }
 
+/// The words of so many letters, or most of them: where one is left out it is found all the same, only later.
+fn words_of(letters: usize) -> &'static [Word] {
+    match letters {
+        4 => &[Word::Draw, Word::Drop],
+        6 => &[Word::Submit, Word::Finish],
+        7 => &[Word::Destroy, Word::Present],
+        8 => &[Word::Dispatch, Word::Complete, Word::MapAsync],
+        11 => &[Word::SetPipeline, Word::WriteBuffer, Word::DrawIndexed],
+        12 => &[Word::SetBindGroup, Word::CreateBuffer, Word::WriteTexture],
+        13 => &[Word::CreateEncoder, Word::CreateTexture],
+        15 => &[
+            Word::SetVertexBuffer,
+            Word::BeginRenderPass,
+            Word::CreateBindGroup,
+        ],
+        16 => &[Word::BeginComputePass],
+        18 => &[Word::CopyBufferToBuffer],
+        _ => &[],
+    }
+}
+
+fn word_among(words: &[Word], text: &str) -> Option<Word>
+    ensures { result ≡ find (λ word. bytes_eq (word_text word) text.now) words.now }
+{
+    words.iter().copied().find(|word| word.as_str() == text)
+}
+
+/// The call that a text names.
+fn word_named(text: &str) -> Option<Word>
+    ensures { result ≡ word_of text.now }
+{
+    match word_among(words_of(text.len()), text) {
+        Some(word) => Some(word),
+        None => Word::named(text),
+    }
+}
+
 /// Reads a call.
-pub fn call_of(alloc: Global, call: &Value) -> Result<Call, Refusal>
+pub fn call_of(alloc: Global, call: &Value<'_>) -> Result<Call, Refusal>
     ensures { Gives result (call_of (view call.now)) }
 {
-    match call.get("do").and_then(Value::as_str).and_then(Word::named) {
+    match call.get("do").and_then(Value::as_str).and_then(word_named) {
         Some(word) => call_as(alloc, word, call),
         None => Err(Refusal::Rule(6)),
     }

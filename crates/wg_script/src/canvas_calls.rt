@@ -1,5 +1,5 @@
 //! Reads the calls of canvases: a function for each, with its keys.
-ghost use Rattle.serde_json.specs.View.{view};
+ghost use Rattle.wg_json.specs.View.{view};
 ghost use Rattle.wg_script.specs.Giving.{Gives};
 ghost use Rattle.wg_script.specs.CanvasCalls.{create_canvas_of, configure_canvas_of, current_texture_of, present_of};
 
@@ -7,8 +7,8 @@ use crate::calling::{canvas_asking, canvas_making};
 use crate::calls::Call;
 use crate::values::{Refusal, check_keys, name_at, reading, short_at, short_or};
 use crate::words::word_at;
-use serde_json::Value;
 use std::alloc::Global;
+use wg_json::Value;
 use wg_types::canvases::{CanvasCall, CanvasFormat, CanvasOf};
 
 /// The formats of canvases, by their words (WebGPU, "GPUCanvasConfiguration").
@@ -23,7 +23,7 @@ const RENDER_ATTACHMENT: u32 = 16;
 
 /// Reads `createCanvas`.
 #[tactic(auto, unfolding(crate::specs::CanvasCalls::create_canvas_of))]
-pub fn create_canvas(alloc: Global, call: &Value) -> Result<Call, Refusal>
+pub fn create_canvas(alloc: Global, call: &Value<'_>) -> Result<Call, Refusal>
     ensures { Gives result (create_canvas_of (view call.now)) }
 {
     reading!(call:
@@ -35,7 +35,7 @@ pub fn create_canvas(alloc: Global, call: &Value) -> Result<Call, Refusal>
 
 /// Reads `configureCanvas`.
 #[tactic(auto, unfolding(crate::specs::CanvasCalls::configure_canvas_of))]
-pub fn configure_canvas(alloc: Global, call: &Value) -> Result<Call, Refusal>
+pub fn configure_canvas(alloc: Global, call: &Value<'_>) -> Result<Call, Refusal>
     ensures { Gives result (configure_canvas_of (view call.now)) }
 {
     reading!(call:
@@ -47,7 +47,7 @@ pub fn configure_canvas(alloc: Global, call: &Value) -> Result<Call, Refusal>
 
 /// Reads `currentTexture`.
 #[tactic(auto, unfolding(crate::specs::CanvasCalls::current_texture_of))]
-pub fn current_texture(alloc: Global, call: &Value) -> Result<Call, Refusal>
+pub fn current_texture(alloc: Global, call: &Value<'_>) -> Result<Call, Refusal>
     ensures { Gives result (current_texture_of (view call.now)) }
 {
     reading!(call:
@@ -58,7 +58,7 @@ pub fn current_texture(alloc: Global, call: &Value) -> Result<Call, Refusal>
 
 /// Reads `present`.
 #[tactic(auto, unfolding(crate::specs::CanvasCalls::present_of))]
-pub fn present(alloc: Global, call: &Value) -> Result<Call, Refusal>
+pub fn present(alloc: Global, call: &Value<'_>) -> Result<Call, Refusal>
     ensures { Gives result (present_of (view call.now)) }
 {
     reading!(call:

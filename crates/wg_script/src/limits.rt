@@ -1,20 +1,20 @@
 //! Reads which limits a script asks for.
 ghost use Rattle.std.specs.Prelude.{◌≡◌};
 ghost use Rattle.serde_json.specs.Find.{get};
-ghost use Rattle.serde_json.specs.View.{view, members_view};
+ghost use Rattle.wg_json.specs.View.{view, members_view};
 ghost use Rattle.wg_script.specs.Giving.{Gives};
 ghost use Rattle.wg_script.specs.Limits.{value_asked, values_asked, limits_in, limits_at};
 
 use crate::values::{MOST_WHOLE, Refusal, whole};
-use serde_json::{Map, Value};
 use std::alloc::Global;
+use wg_json::Value;
 use wg_limits::{LimitName, asked, default_limits};
 use wg_types::items::Items;
 use wg_types::limits::Limits;
 
 /// The limit that a key names, with its value.
 #[tactic(auto, unfolding(crate::specs::Limits::value_asked))]
-fn value_asked(key: &str, value: &Value) -> Result<(LimitName, u64), u8>
+fn value_asked(key: &str, value: &Value<'_>) -> Result<(LimitName, u64), u8>
     ensures { result ≡ value_asked key.now (view value.now) }
 {
     let name = LimitName::of_text(key).ok_or(14)?;
@@ -26,25 +26,25 @@ fn value_asked(key: &str, value: &Value) -> Result<(LimitName, u64), u8>
 
 fn values_asked(
     alloc: Global,
-    members: &Map<String, Value>,
+    members: &[(&str, Value<'_>)],
 ) -> Result<Items<(LimitName, u64)>, Refusal>
-    ensures { Gives result (values_asked (members_view members.now.entries)) }
+    ensures { Gives result (values_asked (members_view members.now)) }
 {
     let mut values = Items::new(alloc);
-    for (key, value) in members.iter() {
-        let asked = value_asked(key.as_str(), value)?;
+    for member in members {
+        let asked = value_asked(member.0, &member.1)?;
         values.push(asked)?;
     }
     Ok(values)
 }
 
 /// The limits of a device of which a script asks for these.
-fn limits_in(alloc: Global, value: &Value) -> Result<Limits, Refusal>
+fn limits_in(alloc: Global, value: &Value<'_>) -> Result<Limits, Refusal>
     ensures { Gives result (limits_in (view value.now)) }
 {
     match value.as_object() {
         Some(members) => {
-            let values = values_asked(alloc, members)?;
+            let values = values_asked(alloc, members.as_slice())?;
             Ok(asked(values.as_slice()).ok_or(14)?)
         }
         None => Err(Refusal::Rule(14)),
@@ -53,7 +53,7 @@ fn limits_in(alloc: Global, value: &Value) -> Result<Limits, Refusal>
 
 /// Script rule 14: the limits that a script asks for, or the defaults where the key is left out (WebGPU,
 /// "requestDevice"). Refuses what is no object from names of limits to whole numbers, and what no device can have.
-pub fn limits_at(alloc: Global, object: &Value, key: &str) -> Result<Limits, Refusal>
+pub fn limits_at(alloc: Global, object: &Value<'_>, key: &str) -> Result<Limits, Refusal>
     ensures { Gives result (limits_at (get key.now (view object.now))) }
 {
     match object.get(key) {

@@ -1,5 +1,5 @@
 //! Reads the calls on compute passes: a function for each, with its keys.
-ghost use Rattle.serde_json.specs.View.{view};
+ghost use Rattle.wg_json.specs.View.{view};
 ghost use Rattle.wg_script.specs.Giving.{Gives};
 ghost use Rattle.wg_script.specs.PassCalls.{begin_compute_pass_of, bare_of, end_of, set_pipeline_of, set_bind_group_of, dispatch_of, indirect_of, dispatch_indirect_of};
 
@@ -10,14 +10,14 @@ use crate::name::Name;
 use crate::values::{
     MOST_WHOLE, Refusal, check_keys, name_at, reading, short_at, short_or, whole_at,
 };
-use serde_json::Value;
 use std::alloc::Global;
+use wg_json::Value;
 use wg_types::commands::CommandOf;
 use wg_types::shared::Shared;
 
 /// Reads `beginComputePass`.
 #[tactic(auto, unfolding(crate::specs::PassCalls::begin_compute_pass_of))]
-pub fn begin_compute_pass(alloc: Global, call: &Value) -> Result<Call, Refusal>
+pub fn begin_compute_pass(alloc: Global, call: &Value<'_>) -> Result<Call, Refusal>
     ensures { Gives result (begin_compute_pass_of (view call.now)) }
 {
     reading!(call:
@@ -27,7 +27,7 @@ pub fn begin_compute_pass(alloc: Global, call: &Value) -> Result<Call, Refusal>
 }
 
 /// Reads a command with no other key than what it stands on.
-pub fn bare(alloc: Global, call: &Value, command: CommandOf<Name>) -> Result<Call, Refusal>
+pub fn bare(alloc: Global, call: &Value<'_>, command: CommandOf<Name>) -> Result<Call, Refusal>
     ensures { Gives result (bare_of command (view call.now)) }
 {
     reading!(call:
@@ -37,7 +37,7 @@ pub fn bare(alloc: Global, call: &Value, command: CommandOf<Name>) -> Result<Cal
 
 /// Reads `end`.
 #[tactic(auto, unfolding(crate::specs::PassCalls::end_of))]
-pub fn end(alloc: Global, call: &Value) -> Result<Call, Refusal>
+pub fn end(alloc: Global, call: &Value<'_>) -> Result<Call, Refusal>
     ensures { Gives result (end_of (view call.now)) }
 {
     bare(alloc, call, CommandOf::End)
@@ -45,7 +45,7 @@ pub fn end(alloc: Global, call: &Value) -> Result<Call, Refusal>
 
 /// Reads `setPipeline`.
 #[tactic(auto, unfolding(crate::specs::PassCalls::set_pipeline_of))]
-pub fn set_pipeline(alloc: Global, call: &Value) -> Result<Call, Refusal>
+pub fn set_pipeline(alloc: Global, call: &Value<'_>) -> Result<Call, Refusal>
     ensures { Gives result (set_pipeline_of (view call.now)) }
 {
     reading!(call:
@@ -56,7 +56,7 @@ pub fn set_pipeline(alloc: Global, call: &Value) -> Result<Call, Refusal>
 
 /// Reads `setBindGroup`.
 #[tactic(auto, unfolding(crate::specs::PassCalls::set_bind_group_of))]
-pub fn set_bind_group(alloc: Global, call: &Value) -> Result<Call, Refusal>
+pub fn set_bind_group(alloc: Global, call: &Value<'_>) -> Result<Call, Refusal>
     ensures { Gives result (set_bind_group_of (view call.now)) }
 {
     reading!(call:
@@ -69,7 +69,7 @@ pub fn set_bind_group(alloc: Global, call: &Value) -> Result<Call, Refusal>
 
 /// Reads `dispatch`.
 #[tactic(auto, unfolding(crate::specs::PassCalls::dispatch_of))]
-pub fn dispatch(alloc: Global, call: &Value) -> Result<Call, Refusal>
+pub fn dispatch(alloc: Global, call: &Value<'_>) -> Result<Call, Refusal>
     ensures { Gives result (dispatch_of (view call.now)) }
 {
     reading!(call:
@@ -90,7 +90,7 @@ pub struct IndirectCall {
 
 /// Reads a command that takes its counts from a buffer.
 #[tactic(auto, unfolding(crate::specs::PassCalls::indirect_of))]
-pub fn indirect(alloc: Global, call: &Value) -> Result<IndirectCall, Refusal>
+pub fn indirect(alloc: Global, call: &Value<'_>) -> Result<IndirectCall, Refusal>
     ensures { Gives result (indirect_of (view call.now)) }
 {
     reading!(call:
@@ -102,7 +102,7 @@ pub fn indirect(alloc: Global, call: &Value) -> Result<IndirectCall, Refusal>
 
 /// Reads `dispatchIndirect`.
 #[tactic(auto, unfolding(crate::specs::PassCalls::dispatch_indirect_of))]
-pub fn dispatch_indirect(alloc: Global, call: &Value) -> Result<Call, Refusal>
+pub fn dispatch_indirect(alloc: Global, call: &Value<'_>) -> Result<Call, Refusal>
     ensures { Gives result (dispatch_indirect_of (view call.now)) }
 {
     let IndirectCall { on, buffer, offset } = indirect(alloc, call)?;

@@ -1,5 +1,5 @@
 //! Reads the calls on query sets and occlusion queries: a function for each, with its keys.
-ghost use Rattle.serde_json.specs.View.{view};
+ghost use Rattle.wg_json.specs.View.{view};
 ghost use Rattle.wg_script.specs.Giving.{Gives};
 ghost use Rattle.wg_script.specs.QueryCalls.{create_queries_of, resolve_queries_of, begin_occlusion_of, end_occlusion_of};
 
@@ -7,15 +7,15 @@ use crate::calling::{making, recording};
 use crate::calls::Call;
 use crate::pass_calls::bare;
 use crate::values::{MOST_WHOLE, Refusal, check_keys, name_at, reading, short_at, whole_at};
-use serde_json::Value;
 use std::alloc::Global;
+use wg_json::Value;
 use wg_types::commands::CommandOf;
 use wg_types::handles::QueriesInfo;
 use wg_types::requests::RequestOf;
 
 /// Reads `createQuerySet`.
 #[tactic(auto, unfolding(crate::specs::QueryCalls::create_queries_of))]
-pub fn create_query_set(alloc: Global, call: &Value) -> Result<Call, Refusal>
+pub fn create_query_set(alloc: Global, call: &Value<'_>) -> Result<Call, Refusal>
     ensures { Gives result (create_queries_of (view call.now)) }
 {
     reading!(call:
@@ -26,7 +26,7 @@ pub fn create_query_set(alloc: Global, call: &Value) -> Result<Call, Refusal>
 
 /// Reads `resolveQuerySet`.
 #[tactic(auto, unfolding(crate::specs::QueryCalls::resolve_queries_of))]
-pub fn resolve_query_set(alloc: Global, call: &Value) -> Result<Call, Refusal>
+pub fn resolve_query_set(alloc: Global, call: &Value<'_>) -> Result<Call, Refusal>
     ensures { Gives result (resolve_queries_of (view call.now)) }
 {
     reading!(call:
@@ -41,7 +41,7 @@ pub fn resolve_query_set(alloc: Global, call: &Value) -> Result<Call, Refusal>
 
 /// Reads `beginOcclusionQuery`.
 #[tactic(auto, unfolding(crate::specs::QueryCalls::begin_occlusion_of))]
-pub fn begin_occlusion_query(alloc: Global, call: &Value) -> Result<Call, Refusal>
+pub fn begin_occlusion_query(alloc: Global, call: &Value<'_>) -> Result<Call, Refusal>
     ensures { Gives result (begin_occlusion_of (view call.now)) }
 {
     reading!(call:
@@ -52,7 +52,7 @@ pub fn begin_occlusion_query(alloc: Global, call: &Value) -> Result<Call, Refusa
 
 /// Reads `endOcclusionQuery`.
 #[tactic(auto, unfolding(crate::specs::QueryCalls::end_occlusion_of))]
-pub fn end_occlusion_query(alloc: Global, call: &Value) -> Result<Call, Refusal>
+pub fn end_occlusion_query(alloc: Global, call: &Value<'_>) -> Result<Call, Refusal>
     ensures { Gives result (end_occlusion_of (view call.now)) }
 {
     bare(alloc, call, CommandOf::EndOcclusionQuery)

@@ -1,5 +1,5 @@
 //! Reads the calls on render pipelines, render passes and draws: a function for each, with its keys.
-ghost use Rattle.serde_json.specs.View.{view};
+ghost use Rattle.wg_json.specs.View.{view};
 ghost use Rattle.wg_script.specs.Giving.{Gives};
 ghost use Rattle.wg_script.specs.RenderCalls.{create_render_of, begin_render_pass_of, set_vertex_buffer_of, set_index_buffer_of, draw_of, draw_indexed_of, draw_indirect_of, draw_indexed_indirect_of};
 
@@ -14,8 +14,8 @@ use crate::values::{
     MOST_WHOLE, Refusal, check_keys, name_at, reading, short_at, short_or, whole_if, whole_or,
 };
 use crate::words::word_at;
-use serde_json::Value;
 use std::alloc::Global;
+use wg_json::Value;
 use wg_types::commands::CommandOf;
 use wg_types::render::{RenderBeginOf, RenderDesc};
 use wg_types::requests::RequestOf;
@@ -23,7 +23,7 @@ use wg_types::shared::Shared;
 
 /// Reads `createRenderPipeline`.
 #[tactic(auto, unfolding(crate::specs::RenderCalls::create_render_of))]
-pub fn create_render_pipeline(alloc: Global, call: &Value) -> Result<Call, Refusal>
+pub fn create_render_pipeline(alloc: Global, call: &Value<'_>) -> Result<Call, Refusal>
     ensures { Gives result (create_render_of (view call.now)) }
 {
     reading!(call:
@@ -42,7 +42,7 @@ pub fn create_render_pipeline(alloc: Global, call: &Value) -> Result<Call, Refus
 
 /// Reads `beginRenderPass`.
 #[tactic(auto, unfolding(crate::specs::RenderCalls::begin_render_pass_of))]
-pub fn begin_render_pass(alloc: Global, call: &Value) -> Result<Call, Refusal>
+pub fn begin_render_pass(alloc: Global, call: &Value<'_>) -> Result<Call, Refusal>
     ensures { Gives result (begin_render_pass_of (view call.now)) }
 {
     reading!(call:
@@ -56,7 +56,7 @@ pub fn begin_render_pass(alloc: Global, call: &Value) -> Result<Call, Refusal>
 
 /// Reads `setVertexBuffer`.
 #[tactic(auto, unfolding(crate::specs::RenderCalls::set_vertex_buffer_of))]
-pub fn set_vertex_buffer(alloc: Global, call: &Value) -> Result<Call, Refusal>
+pub fn set_vertex_buffer(alloc: Global, call: &Value<'_>) -> Result<Call, Refusal>
     ensures { Gives result (set_vertex_buffer_of (view call.now)) }
 {
     reading!(call:
@@ -70,7 +70,7 @@ pub fn set_vertex_buffer(alloc: Global, call: &Value) -> Result<Call, Refusal>
 
 /// Reads `setIndexBuffer`.
 #[tactic(auto, unfolding(crate::specs::RenderCalls::set_index_buffer_of))]
-pub fn set_index_buffer(alloc: Global, call: &Value) -> Result<Call, Refusal>
+pub fn set_index_buffer(alloc: Global, call: &Value<'_>) -> Result<Call, Refusal>
     ensures { Gives result (set_index_buffer_of (view call.now)) }
 {
     reading!(call:
@@ -84,7 +84,7 @@ pub fn set_index_buffer(alloc: Global, call: &Value) -> Result<Call, Refusal>
 
 /// Reads `draw`.
 #[tactic(auto, unfolding(crate::specs::RenderCalls::draw_of))]
-pub fn draw(alloc: Global, call: &Value) -> Result<Call, Refusal>
+pub fn draw(alloc: Global, call: &Value<'_>) -> Result<Call, Refusal>
     ensures { Gives result (draw_of (view call.now)) }
 {
     reading!(call:
@@ -98,7 +98,7 @@ pub fn draw(alloc: Global, call: &Value) -> Result<Call, Refusal>
 
 /// Reads `drawIndexed`.
 #[tactic(auto, unfolding(crate::specs::RenderCalls::draw_indexed_of))]
-pub fn draw_indexed(alloc: Global, call: &Value) -> Result<Call, Refusal>
+pub fn draw_indexed(alloc: Global, call: &Value<'_>) -> Result<Call, Refusal>
     ensures { Gives result (draw_indexed_of (view call.now)) }
 {
     reading!(call:
@@ -112,7 +112,7 @@ pub fn draw_indexed(alloc: Global, call: &Value) -> Result<Call, Refusal>
 
 /// Reads `drawIndirect`.
 #[tactic(auto, unfolding(crate::specs::RenderCalls::draw_indirect_of))]
-pub fn draw_indirect(alloc: Global, call: &Value) -> Result<Call, Refusal>
+pub fn draw_indirect(alloc: Global, call: &Value<'_>) -> Result<Call, Refusal>
     ensures { Gives result (draw_indirect_of (view call.now)) }
 {
     let IndirectCall { on, buffer, offset } = indirect(alloc, call)?;
@@ -121,7 +121,7 @@ pub fn draw_indirect(alloc: Global, call: &Value) -> Result<Call, Refusal>
 
 /// Reads `drawIndexedIndirect`.
 #[tactic(auto, unfolding(crate::specs::RenderCalls::draw_indexed_indirect_of))]
-pub fn draw_indexed_indirect(alloc: Global, call: &Value) -> Result<Call, Refusal>
+pub fn draw_indexed_indirect(alloc: Global, call: &Value<'_>) -> Result<Call, Refusal>
     ensures { Gives result (draw_indexed_indirect_of (view call.now)) }
 {
     let IndirectCall { on, buffer, offset } = indirect(alloc, call)?;

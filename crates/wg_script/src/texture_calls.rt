@@ -1,6 +1,6 @@
 //! Reads the calls on textures: a function for each, with its keys.
 ghost use Rattle.std.specs.Prelude.{◌≡◌};
-ghost use Rattle.serde_json.specs.View.{view};
+ghost use Rattle.wg_json.specs.View.{view};
 ghost use Rattle.wg_script.specs.Giving.{Gives};
 ghost use Rattle.wg_script.specs.TextureCalls.{view_asked_keys, layout_keys, spot_keys, create_texture_of, create_view_of, write_texture_of, texel_copy_of, copy_buffer_to_texture_of, copy_texture_to_buffer_of, copy_texture_to_texture_of};
 
@@ -14,15 +14,15 @@ use crate::values::{
     whole_or,
 };
 use crate::words::{word_at, word_if, word_or};
-use serde_json::Value;
 use std::alloc::Global;
+use wg_json::Value;
 use wg_types::commands::CommandOf;
 use wg_types::requests::RequestOf;
 use wg_types::textures::{AspectWord, DataLayout, TextureDim, TextureInfo, TextureSpot, ViewAsked};
 
 /// Reads `createTexture`.
 #[tactic(auto, unfolding(crate::specs::TextureCalls::create_texture_of))]
-pub fn create_texture(alloc: Global, call: &Value) -> Result<Call, Refusal>
+pub fn create_texture(alloc: Global, call: &Value<'_>) -> Result<Call, Refusal>
     ensures { Gives result (create_texture_of (view call.now)) }
 {
     reading!(call:
@@ -37,7 +37,7 @@ pub fn create_texture(alloc: Global, call: &Value) -> Result<Call, Refusal>
 }
 
 /// What of a texture a view takes.
-fn view_asked_in(call: &Value) -> Result<ViewAsked, u8>
+fn view_asked_in(call: &Value<'_>) -> Result<ViewAsked, u8>
     ensures { result ≡ view_asked_keys.read (view call.now) }
 {
     Ok(ViewAsked {
@@ -52,7 +52,7 @@ fn view_asked_in(call: &Value) -> Result<ViewAsked, u8>
 
 /// Reads `createView`.
 #[tactic(auto, unfolding(crate::specs::TextureCalls::create_view_of))]
-pub fn create_view(alloc: Global, call: &Value) -> Result<Call, Refusal>
+pub fn create_view(alloc: Global, call: &Value<'_>) -> Result<Call, Refusal>
     ensures { Gives result (create_view_of (view call.now)) }
 {
     reading!(call:
@@ -63,7 +63,7 @@ pub fn create_view(alloc: Global, call: &Value) -> Result<Call, Refusal>
 }
 
 /// How texels lie in bytes.
-fn layout_in(call: &Value) -> Result<DataLayout, u8>
+fn layout_in(call: &Value<'_>) -> Result<DataLayout, u8>
     ensures { result ≡ layout_keys.read (view call.now) }
 {
     Ok(DataLayout {
@@ -74,7 +74,7 @@ fn layout_in(call: &Value) -> Result<DataLayout, u8>
 }
 
 /// Where in a texture a copy begins.
-fn spot_in(call: &Value) -> Result<TextureSpot, u8>
+fn spot_in(call: &Value<'_>) -> Result<TextureSpot, u8>
     ensures { result ≡ spot_keys.read (view call.now) }
 {
     Ok(TextureSpot {
@@ -86,7 +86,7 @@ fn spot_in(call: &Value) -> Result<TextureSpot, u8>
 
 /// Reads `writeTexture`.
 #[tactic(auto, unfolding(crate::specs::TextureCalls::write_texture_of))]
-pub fn write_texture(alloc: Global, call: &Value) -> Result<Call, Refusal>
+pub fn write_texture(alloc: Global, call: &Value<'_>) -> Result<Call, Refusal>
     ensures { Gives result (write_texture_of (view call.now)) }
 {
     reading!(call:
@@ -110,7 +110,7 @@ struct TexelCopy {
 }
 
 #[tactic(auto, unfolding(crate::specs::TextureCalls::texel_copy_of))]
-fn texel_copy(alloc: Global, call: &Value) -> Result<TexelCopy, Refusal>
+fn texel_copy(alloc: Global, call: &Value<'_>) -> Result<TexelCopy, Refusal>
     ensures { Gives result (texel_copy_of (view call.now)) }
 {
     reading!(call:
@@ -125,7 +125,7 @@ fn texel_copy(alloc: Global, call: &Value) -> Result<TexelCopy, Refusal>
 
 /// Reads `copyBufferToTexture`.
 #[tactic(auto, unfolding(crate::specs::TextureCalls::copy_buffer_to_texture_of))]
-pub fn copy_buffer_to_texture(alloc: Global, call: &Value) -> Result<Call, Refusal>
+pub fn copy_buffer_to_texture(alloc: Global, call: &Value<'_>) -> Result<Call, Refusal>
     ensures { Gives result (copy_buffer_to_texture_of (view call.now)) }
 {
     let TexelCopy {
@@ -148,7 +148,7 @@ pub fn copy_buffer_to_texture(alloc: Global, call: &Value) -> Result<Call, Refus
 
 /// Reads `copyTextureToBuffer`.
 #[tactic(auto, unfolding(crate::specs::TextureCalls::copy_texture_to_buffer_of))]
-pub fn copy_texture_to_buffer(alloc: Global, call: &Value) -> Result<Call, Refusal>
+pub fn copy_texture_to_buffer(alloc: Global, call: &Value<'_>) -> Result<Call, Refusal>
     ensures { Gives result (copy_texture_to_buffer_of (view call.now)) }
 {
     let TexelCopy {
@@ -171,7 +171,7 @@ pub fn copy_texture_to_buffer(alloc: Global, call: &Value) -> Result<Call, Refus
 
 /// Reads `copyTextureToTexture`.
 #[tactic(auto, unfolding(crate::specs::TextureCalls::copy_texture_to_texture_of))]
-pub fn copy_texture_to_texture(alloc: Global, call: &Value) -> Result<Call, Refusal>
+pub fn copy_texture_to_texture(alloc: Global, call: &Value<'_>) -> Result<Call, Refusal>
     ensures { Gives result (copy_texture_to_texture_of (view call.now)) }
 {
     reading!(call:

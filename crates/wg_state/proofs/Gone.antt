@@ -1,7 +1,6 @@
 -- What an event names was not let go, and what was let go is dead.
-use Rattle.std.proofs.Common.{◌≡◌, ℕ, suc, zero, ◌+◌, ◌-◌, ◌<◌, Bool, true, false, not, ◌&&◌, ◌||◌, nat_lt, List, [], ◌∷◌, ◌++◌, length, map, get_or, slice_index, Option, Some, None, is_some, is_none, option_map, option_to_list, unwrap_or, IfOk, IfSome, reverse, inl, inr, refl, sym, ap, ap₂, ◌∙◌, arith, subst, if◌then◌else◌, true≢false}
+use Rattle.std.proofs.Common.{◌≡◌, ℕ, suc, zero, ◌-◌, ◌<◌, Bool, true, false, not, ◌&&◌, ◌||◌, nat_lt, List, [], ◌∷◌, ◌++◌, length, map, get_or, Option, Some, None, is_some, is_none, option_map, option_to_list, unwrap_or, inl, inr, refl, sym, ap, ap₂, ◌∙◌, arith, if◌then◌else◌, true≢false}
 use Rattle.std.specs.Option.{option_map_or}
-use Rattle.std.specs.List.{list_any}
 use Rattle.std.proofs.lemmas.Bool.{cases_lt, lt-ltb, and_parts, ltb-true}
 use Rattle.std.proofs.lemmas.List.Folds.{list_any-append}
 use Rattle.wg_fading.specs.Fading.{was_let_go}
@@ -19,7 +18,7 @@ use Rattle.wg_types.specs.declared.bindings.BoundResource.TheVariants.{Buffer as
 use Rattle.wg_types.specs.declared.groups.GroupLayoutInfo.{GroupLayoutInfo}
 use Rattle.wg_types.specs.declared.groups.PipelineLayoutInfo.{PipelineLayoutInfo}
 use Rattle.wg_types.specs.Bindings.{resource_named, entries_named}
-use Rattle.wg_model.specs.Automatic.{automatic_layouts, entries_at, known_layouts}
+use Rattle.wg_model.specs.Automatic.{entries_at, known_layouts}
 use Rattle.wg_model.specs.Bound.{is_automatic}
 use Rattle.wg_model.specs.Making.{known_buffer, known_texture, known_view, known_sampler, known_group_layout, known_pipeline_layout, bound_resource, bound_entry, layout_made}
 use Rattle.wg_model.specs.Views.{view_info}
@@ -30,14 +29,14 @@ use Rattle.wg_history.specs.declared.events.Promise.TheVariants.{Map as ForMap}
 use Rattle.wg_history.specs.declared.events.Event.{Event}
 use Rattle.wg_history.specs.declared.events.Event.TheVariants.{CreateBuffer, CreateTexture, CreateView, CreateSampler, CreateBindGroupLayout, CreatePipelineLayout, CreateBindGroup, CreateComputePipeline, CreateRenderPipeline, GetBindGroupLayout, CreateQuerySet, CreateEncoder, CreateBundleEncoder, Finish, FinishBundle, Late, Submit, WriteBuffer, WriteTexture, Destroy, Drop, Complete, PushErrorScope, PopErrorScope, Lose, WorkDone, MapAsync, Unmap}
 use Rattle.wg_history.specs.Entries.{Past, effects_of, submitted}
-use Rattle.wg_history.specs.Objects.{count, info_at, info_made, known_in, made_info, resource_at}
+use Rattle.wg_history.specs.Objects.{count, info_at, info_made, known_in, made_info}
 use Rattle.wg_history.specs.Releases.{is_released}
-use Rattle.wg_holders.specs.Holders.{Holdings, mark_at, list_at}
-use Rattle.wg_life.specs.Lives.{LifeValue, AreDead as AreDeadIn, row_at, is_live}
+use Rattle.wg_holders.specs.Holders.{Holdings, mark_at, list_at, is_held as is_held_now}
+use Rattle.wg_life.specs.Lives.{LifeValue, AreDead as AreDeadIn, row_at, is_live, is_unreached, is_dead}
 use Rattle.wg_life.specs.declared.rows.Resource.{Resource}
 use Rattle.wg_life.specs.declared.rows.Row.{Row}
 use Rattle.wg_state.specs.Gone.{touched, asked_by, made_of, written_to, any_gone, names_gone, uses_gone, is_here, info_here, known_here, IsDead, AreDead}
-use Rattle.wg_state.specs.Rows.{memory_at, row_of, IsLifeOf}
+use Rattle.wg_state.specs.Rows.{memory_at, IsLifeOf}
 use Rattle.wg_state.proofs.LifeLemmas.{sort_at, held_same, holdings_of}
 use Rattle.wg_state.proofs.KeptLemmas.{reads_dropped}
 use Rattle.wg_state.proofs.Places.{info_none}
@@ -191,25 +190,26 @@ unkept gone past n out = by (was_let_go gone n) refl
       | inr more ↦ sym (info_none past n more)
     ]
 
+not_true : (b : Bool) → not b ≡ true → b ≡ false
+not_true true e = absurd (true≢false (sym e))
+not_true false e = refl
+
 pub kept_here : (gone : List ℕ) (past : Past) (n : ℕ) → is_here gone past n ≡ true → was_let_go gone n ≡ false
 kept_here gone past n here = not_true (was_let_go gone n) (and_parts (nat_lt n (count past)) (not (was_let_go gone n)) here).1
-  where
-    not_true : (b : Bool) → not b ≡ true → b ≡ false
-    not_true true e = absurd (true≢false (sym e))
-    not_true false e = refl
 
 -- what was let go is dead
 
-pub life_dead : (setup : Setup) (past : Past) (life : LifeValue) → IsLifeOf setup past life → AreDeadIn life.rows life.holdings life.gone → AreDead setup past life.gone
-life_dead setup past life is dead n went = record {
+-- an object that was made, was dropped, is not held, and is no resource that is not released
+unreached_dead : (setup : Setup) (past : Past) (life : LifeValue) (n : ℕ) → IsLifeOf setup past life → n < length life.rows → is_some (mark_at life.holdings.marks n).dropped ≡ true → is_held_now life.holdings n ≡ false → is_live (row_at life.rows n) ≡ false → IsDead setup past n
+unreached_dead setup past life n is in_rows dropped unheld over = record {
   made = made;
-  dropped = sym (reads_dropped setup past life n is) ∙ dead.dropped n went;
-  unheld = sym (held_same setup past life.holdings n (holdings_of setup past life is)) ∙ dead.unheld n went;
-  over = λ some. released (is_some (memory_at past n)) (is_released setup past n) (sym (ap is_live (is.row_is n made)) ∙ dead.over n went) (some_same (memory_at past n) ∙ (ap is_some (sort_at past n) ∙ some));
+  dropped = sym (reads_dropped setup past life n is) ∙ dropped;
+  unheld = sym (held_same setup past life.holdings n (holdings_of setup past life is)) ∙ unheld;
+  over = λ some. released (is_some (memory_at past n)) (is_released setup past n) (sym (ap is_live (is.row_is n made)) ∙ over) (some_same (memory_at past n) ∙ (ap is_some (sort_at past n) ∙ some));
 }
   where
     made : n < count past
-    made = let lt = dead.made n went in let len = is.rows_len in omega (arith, lt, len)
+    made = let len = is.rows_len in omega (arith, in_rows, len)
 
     some_same : (o : Option Resource) → is_some o ≡ is_some (option_map (λ (resource : Resource). resource.sort) o)
     some_same None = refl
@@ -219,6 +219,18 @@ life_dead setup past life is dead n went = record {
     released r true e some = refl
     released true false e some = absurd (true≢false e)
     released false false e some = absurd (true≢false (sym some))
+
+pub life_dead : (setup : Setup) (past : Past) (life : LifeValue) → IsLifeOf setup past life → AreDeadIn life.rows life.holdings life.gone → AreDead setup past life.gone
+life_dead setup past life is dead n went = unreached_dead setup past life n is (dead.made n went) (dead.dropped n went) (dead.unheld n went) (dead.over n went)
+
+-- what is dead of a life is dead in the past
+pub dead_as : (setup : Setup) (past : Past) (life : LifeValue) (n : ℕ) → IsLifeOf setup past life → is_dead life n ≡ true → IsDead setup past n
+dead_as setup past life n is dead =
+    let whole = and_parts (nat_lt n (length life.rows) && not (was_let_go life.gone n)) (is_unreached life.rows life.holdings n) dead in
+    let here = and_parts (nat_lt n (length life.rows)) (not (was_let_go life.gone n)) whole.0 in
+    let unreached = and_parts (is_some (mark_at life.holdings.marks n).dropped) (not (is_held_now life.holdings n) && not (is_live (row_at life.rows n))) whole.1 in
+    let rest = and_parts (not (is_held_now life.holdings n)) (not (is_live (row_at life.rows n))) unreached.1 in
+    unreached_dead setup past life n is (ltb-true n (length life.rows) here.0) unreached.0 (not_true (is_held_now life.holdings n) rest.0) (not_true (is_live (row_at life.rows n)) rest.1)
 
 -- the same life, of which more was let go
 pub life_as : (setup : Setup) (past : Past) (old new : LifeValue) → new.rows ≡ old.rows → new.holdings ≡ old.holdings → new.budget ≡ old.budget → IsLifeOf setup past old → IsLifeOf setup past new

@@ -1,5 +1,5 @@
 //! A history with all that is kept beside it.
-ghost use Rattle.std.specs.Prelude.{◌≡◌, true, ◌+◌, ◌-◌, ◌^◌, ◌<◌, ◌≤◌, ◌∷◌, ◌++◌, [], map, filter, nat_le, is_some, length, reverse, vec_len, vec_capacity, OnOk, IfOk, Some, None, ◌||◌, ◌==◌, if◌then◌else◌, false, MatchOption};
+ghost use Rattle.std.specs.Prelude.{◌≡◌, true, ◌+◌, ◌-◌, ◌^◌, ◌<◌, ◌≤◌, ◌∷◌, ◌++◌, [], map, filter, nat_le, is_some, length, reverse, vec_len, vec_capacity, option_to_list, OnOk, IfOk, IfSome, Some, None, ◌||◌, ◌==◌, if◌then◌else◌, false, MatchOption};
 ghost use Rattle.wg_fading.specs.Fading.{was_let_go};
 ghost use Rattle.wg_orders.specs.Trace.{free};
 ghost use Rattle.wg_history.specs.Operations.{issued, completed, last_use};
@@ -13,7 +13,7 @@ ghost use Rattle.wg_history.specs.Releases.{freed};
 ghost use Rattle.wg_maps.specs.Mappings.{due_maps};
 ghost use Rattle.wg_state.specs.Rows.{AreUsed, made_by, links_of};
 ghost use Rattle.wg_life.specs.Lives.{live_count};
-ghost use Rattle.wg_state.specs.Gone.{names_gone, uses_gone, is_here, AreDead};
+ghost use Rattle.wg_state.specs.Gone.{names_gone, uses_gone, is_here, IsDead, AreDead};
 ghost use Rattle.wg_state.specs.States.{IsKept};
 ghost use Rattle.wg_state.specs.Waits.{map_waits};
 ghost use Rattle.wg_state.specs.Uses.{uses_of};
@@ -480,30 +480,28 @@ impl State {
         self.kept.life.dead_holds();
     }
 
-    /// Lets one object go of those that were noted as maybe dead, if it is.
-    fn let_one_go(&mut self)
+    /// How many objects were noted as maybe dead.
+    pub fn hints(&self) -> usize {
+        self.kept.life.hints()
+    }
+
+    /// Takes one object of those that were noted as maybe dead, and lets it go if it is. It gives the number
+    /// of what it let go. What was known of that is dropped.
+    pub fn let_one_go(&mut self) -> Option<u64>
         ensures setup { self.new.setup ≡ self.old.setup }
         ensures history { self.new.history ≡ self.old.history }
         ensures live { self.new.live ≡ self.old.live }
+        ensures gone { self.new.gone ≡ self.old.gone ++ option_to_list result }
+        ensures dead { IfSome result (λ number. IsDead self.old.setup (reverse self.old.history) number) }
     {
         let Some(number) = self.kept.life.next_hint() else {
-            return;
+            return None;
         };
         if !self.kept.life.is_dead(number) {
-            return;
+            return None;
         }
         self.kept.life.let_go(number);
         let _ = self.book.let_go(number);
-    }
-
-    /// Lets all go that is dead of what was noted as such. What was known of it is dropped.
-    pub fn let_go_dead(&mut self)
-        ensures setup { self.new.setup ≡ self.old.setup }
-        ensures history { self.new.history ≡ self.old.history }
-        ensures live { self.new.live ≡ self.old.live }
-    {
-        for _ in 0..self.kept.life.hints() {
-            self.let_one_go();
-        }
+        Some(number)
     }
 }

@@ -1,5 +1,5 @@
 use Rattle.std.proofs.Common.{◌≡◌, drop}
-use Rattle.serde_json.specs.View.{items_view}
+use Rattle.wg_json.specs.View.{items_view}
 use Rattle.wg_script.specs.Lists.{items_of, with_items}
 use Rattle.wg_script.proofs.lists.items_in.Given as goal
 

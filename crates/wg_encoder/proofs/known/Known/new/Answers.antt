@@ -5,4 +5,4 @@ pub returns-in_default : goal.returns-in_default
 returns-in_default c = λ device. (sym c.in_default.ensures, c.new.ensures device)
 
 pub returns : goal.returns
-returns c = λ device. rw (← c.in-Some.ensures) (c.in_ok-state.ensures device)
+returns c = λ device. rw (← c.in-Some.ensures) (rw c.in_ok-new.ensures.ok (c.in_ok-state.ensures device))
