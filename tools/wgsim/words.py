@@ -12,7 +12,7 @@ from typing import Any, Callable, NoReturn
 
 from wgsim import TOP, commands, exit_status
 from wgsim.inputs import STANDARD, write
-from wgsim.program import building
+from wgsim.program import building, release
 from wgsim.program.program import NAMED
 
 NAME = "wgsim"
@@ -119,7 +119,7 @@ def test(words: argparse.Namespace, module: ModuleType, wrong: Callable[[str], N
 
 def version() -> str:
     """Which version and sources this is, which programs there are of them, and by which toolchain one would be proved."""
-    from wgsim.program import release, unproved
+    from wgsim.program import unproved
 
     def of(is_current: bool, program: pathlib.Path, done: str) -> str:
         return f"{done} from these sources" if is_current else f"{done} from other sources" if program.exists() else f"not {done}"
@@ -149,6 +149,8 @@ def act(given: list[str]) -> int:
         return exit_status.SAME
     if words.is_proved and (NAMED in os.environ or not building.is_built()):
         why = "the proved program is not built from these sources, and --proved takes no other: `./wgsim prove` builds it"
+        if release.is_one():
+            why = f"--proved takes no other than the proved program, and {release.said()} is here"
         raise exit_status.End(exit_status.NOT_BUILT, why)
     return found[words.command].act(words)
 

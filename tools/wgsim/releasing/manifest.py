@@ -13,6 +13,8 @@ from wgsim.program import building, crates, release
 from wgsim.releasing import packing
 
 SUMS = "SHA256SUMS"
+# What the toolchain compiles for where it is not told otherwise, as `rt lib` prints it.
+PROCESSOR = "x86-64-v2"
 
 
 def git(*words: str) -> str:
@@ -55,7 +57,7 @@ def told(is_program: bool, is_archive: bool, files: Sequence[str], least_glibc: 
         "toolchain": building.toolchain() or "unknown",
         "program": {"file": release.FILE, "is_of_the_commit": is_program, "proved_crates": crates.needed("wgsim")},
         "archive": {"file": "lib/libwethlorn.a", "is_of_the_commit": is_archive, "proved_crates": crates.needed("wg_c")},
-        "needs": {"processor": "x86-64", "glibc": least_glibc, "python": "3.8, for the tool"},
+        "needs": {"processor": PROCESSOR, "glibc": least_glibc, "python": "3.8, for the tool"},
     }
 
 
