@@ -4,7 +4,7 @@ usage: tests/release/run [--program FILE] [--archive FILE] [--libc FILE]
 
 Every command of the release's README.md is run in its order, as it stands there: take it, install it, build the examples by pkg-config,
 CMake and cargo, take it away. What asks for a tool that is not installed is left out, and that is said. The program and the archive are
-those of these sources, or those that are named. Where there is no archive nothing is tested, and that is said too. Prints a line for each
+those of these sources, or those that are named. Where there is no archive, or no commit, nothing is tested, and that is said too. Prints a line for each
 finding, and fails if there is one.
 """
 
@@ -182,7 +182,10 @@ def test_release(words):
 
 
 def linked(words):
-    """The archive and the heap of the release, or why there are none."""
+    """The archive and the heap of the release, or why there are none, or no commit of which one could be."""
+    status, said = run(["git", "rev-parse", "HEAD"], cwd=TOP) if shutil.which("git") else (1, "git is not installed")
+    if status:
+        return None, f"a release is of a commit, and there is none: {said}"
     found, why = (words.archive, None) if words.archive else archive.found()
     return ([found, words.libc or archive.libc()], None) if found else (None, why)
 
@@ -195,7 +198,7 @@ def main():
     words = parser.parse_args()
     found, why = linked(words)
     if found is None:
-        print(f"notice: there is no archive of the C interface, so no release is tested: {why}")
+        print(f"notice: no release is tested: {why}")
         return 0
     check(os.path.exists(words.program), f"{words.program} is not there: `./wgsim prove` or `rt ci` builds it")
     if not findings:
