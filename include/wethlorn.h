@@ -30,18 +30,37 @@
  * lock, or by a thread's start or join. Two devices have nothing in common. No call waits, and none may be
  * made from a signal handler or a forked child.
  *
+ * One lock spans a call, the drain of what comes of it, and the doing of its items, be it that they are put
+ * into the driver's own queue in that order. A lock that is let go in between orders the calls alone: another
+ * thread may then drain the next items and do them first, and the barriers hold of the order in which they
+ * are told. What waits in the drains is the device's and not the call's: whoever drains does what others left.
+ *
  * Values. An enumerated value that is left out is 0, and that is allowed where a comment says so. A flag is
  * 0 or 1. A number or an object that may be left out is WETHLORN_NONE. Whatever else is out of range, also a
  * number above 2^32 - 1 where one of 32 bits is asked for, has the status WETHLORN_BAD_VALUE.
+ *
+ * Descriptors. Begin each with its WETHLORN_.._INIT and set what is asked for: the objects and sizes that are
+ * left out are then WETHLORN_NONE, and all else is as WebGPU has it by default. A descriptor that is set to
+ * {0} names the object 0 wherever it may name one.
  */
 #ifndef WETHLORN_H
 #define WETHLORN_H
 /* The version, which is that of the file VERSION; CHANGELOG.md says what each has. */
 #define WETHLORN_VERSION "0.4.0"
+#define WETHLORN_VERSION_MAJOR 0
+#define WETHLORN_VERSION_MINOR 4
+#define WETHLORN_VERSION_PATCH 0
 #include <stddef.h>
 #include <stdint.h>
 #ifdef __cplusplus
 extern "C" {
+#endif
+
+/* An enumerated type that has 32 bits in C++ too, whatever its value. */
+#ifdef __cplusplus
+#define WETHLORN_ENUM(name) enum name : uint32_t
+#else
+#define WETHLORN_ENUM(name) enum name
 #endif
 
 /* A device: null before wethlorn_open and after wethlorn_close. */
@@ -226,7 +245,64 @@ enum {
     WETHLORN_SAMPLE_UINT = 5
 };
 enum { WETHLORN_ACCESS_READ_ONLY = 1, WETHLORN_ACCESS_WRITE_ONLY = 2, WETHLORN_ACCESS_READ_WRITE = 3 };
-enum { WETHLORN_STAGE_VERTEX = 1, WETHLORN_STAGE_FRAGMENT = 2, WETHLORN_STAGE_COMPUTE = 3 };
+
+/* ---- Flags, and what may be taken for them. These have types of their own, so that none stands for another
+ * by mistake: in C a compiler warns where one does (-Wenum-conversion), and in C++ it refuses. Flags are
+ * joined by |. A number that comes from elsewhere becomes one of them in C as it is, and in C++ by a cast.
+ * Each has the 32 bits of a uint32_t, and is passed as one. ---- */
+
+/* Usages of a buffer: flags. */
+typedef WETHLORN_ENUM(wethlorn_buffer_usage) {
+    WETHLORN_BUFFER_USAGE_NONE = 0,
+    WETHLORN_BUFFER_USAGE_MAP_READ = 1,
+    WETHLORN_BUFFER_USAGE_MAP_WRITE = 2,
+    WETHLORN_BUFFER_USAGE_COPY_SRC = 4,
+    WETHLORN_BUFFER_USAGE_COPY_DST = 8,
+    WETHLORN_BUFFER_USAGE_INDEX = 16,
+    WETHLORN_BUFFER_USAGE_VERTEX = 32,
+    WETHLORN_BUFFER_USAGE_UNIFORM = 64,
+    WETHLORN_BUFFER_USAGE_STORAGE = 128,
+    WETHLORN_BUFFER_USAGE_INDIRECT = 256,
+    WETHLORN_BUFFER_USAGE_QUERY_RESOLVE = 512
+} wethlorn_buffer_usage;
+
+/* Usages of a texture: flags. */
+typedef WETHLORN_ENUM(wethlorn_texture_usage) {
+    WETHLORN_TEXTURE_USAGE_NONE = 0,
+    WETHLORN_TEXTURE_USAGE_COPY_SRC = 1,
+    WETHLORN_TEXTURE_USAGE_COPY_DST = 2,
+    WETHLORN_TEXTURE_USAGE_TEXTURE_BINDING = 4,
+    WETHLORN_TEXTURE_USAGE_STORAGE_BINDING = 8,
+    WETHLORN_TEXTURE_USAGE_RENDER_ATTACHMENT = 16
+} wethlorn_texture_usage;
+
+/* To which stages a binding is visible: flags. */
+typedef WETHLORN_ENUM(wethlorn_visibility) {
+    WETHLORN_VISIBILITY_NONE = 0,
+    WETHLORN_VISIBILITY_VERTEX = 1,
+    WETHLORN_VISIBILITY_FRAGMENT = 2,
+    WETHLORN_VISIBILITY_COMPUTE = 4
+} wethlorn_visibility;
+
+/* The stage of a shader: one, and no flags. NONE has the status WETHLORN_BAD_VALUE. */
+typedef WETHLORN_ENUM(wethlorn_stage) {
+    WETHLORN_STAGE_NONE = 0,
+    WETHLORN_STAGE_VERTEX = 1,
+    WETHLORN_STAGE_FRAGMENT = 2,
+    WETHLORN_STAGE_COMPUTE = 3
+} wethlorn_stage;
+
+/* For what a buffer is mapped: flags, of which a mapAsync takes one. */
+typedef WETHLORN_ENUM(wethlorn_map_mode) {
+    WETHLORN_MAP_MODE_NONE = 0,
+    WETHLORN_MAP_MODE_READ = 1,
+    WETHLORN_MAP_MODE_WRITE = 2
+} wethlorn_map_mode;
+
+/* Whether they have 32 bits each, which a compiler may be told to change. */
+typedef char wethlorn_types_have_32_bits[sizeof(wethlorn_buffer_usage) == 4 &&
+    sizeof(wethlorn_texture_usage) == 4 && sizeof(wethlorn_visibility) == 4 && sizeof(wethlorn_stage) == 4 &&
+    sizeof(wethlorn_map_mode) == 4 ? 1 : -1];
 
 /* What an entry of a bind group binds. */
 enum { WETHLORN_BOUND_BUFFER = 1, WETHLORN_BOUND_VIEW = 2, WETHLORN_BOUND_SAMPLER = 3 };
@@ -313,17 +389,16 @@ typedef struct wethlorn_origin {
     uint32_t x, y, z; /* z: the slice, or the array layer */
 } wethlorn_origin;
 
-/* usage: MAP_READ 1, MAP_WRITE 2, COPY_SRC 4, COPY_DST 8, INDEX 16, VERTEX 32, UNIFORM 64, STORAGE 128,
- * INDIRECT 256, QUERY_RESOLVE 512. */
 typedef struct wethlorn_buffer_desc {
     uint64_t size;
-    uint32_t usage, mapped;
+    wethlorn_buffer_usage usage;
+    uint32_t mapped;
 } wethlorn_buffer_desc;
 
-/* usage: COPY_SRC 1, COPY_DST 2, TEXTURE_BINDING 4, STORAGE_BINDING 8, RENDER_ATTACHMENT 16. */
 typedef struct wethlorn_texture_desc {
     wethlorn_extent size;
-    uint32_t usage, format, dim, mips, samples;
+    wethlorn_texture_usage usage;
+    uint32_t format, dim, mips, samples;
 } wethlorn_texture_desc;
 
 /* mips and layers may be WETHLORN_NONE, and dim 0. */
@@ -338,15 +413,16 @@ typedef struct wethlorn_binding {
     uint32_t kind, dynamic, sampler, sample, dim, multi, access, format;
 } wethlorn_binding;
 
-/* visibility: vertex 1, fragment 2, compute 4. */
 typedef struct wethlorn_layout_entry {
-    uint32_t binding, visibility;
+    uint32_t binding;
+    wethlorn_visibility visibility;
     wethlorn_binding holds;
 } wethlorn_layout_entry;
 
 /* What a shader of a stage uses of a group. */
 typedef struct wethlorn_iface_entry {
-    uint32_t group, binding, stage;
+    uint32_t group, binding;
+    wethlorn_stage stage;
     wethlorn_binding holds;
 } wethlorn_iface_entry;
 
@@ -430,6 +506,37 @@ typedef struct wethlorn_texture_write {
     wethlorn_extent size;
     uint64_t data_size;
 } wethlorn_texture_write;
+
+/* ---- Descriptors in which nothing is named, as values that they begin with ---- */
+
+#define WETHLORN_DEVICE_INIT {0}
+#define WETHLORN_LIMIT_INIT {0, 0}
+#define WETHLORN_EXTENT_INIT {0, 1, 1}
+#define WETHLORN_ORIGIN_INIT {0, 0, 0}
+#define WETHLORN_BUFFER_DESC_INIT {0, WETHLORN_BUFFER_USAGE_NONE, 0}
+#define WETHLORN_TEXTURE_DESC_INIT {WETHLORN_EXTENT_INIT, WETHLORN_TEXTURE_USAGE_NONE, 0, WETHLORN_2D, 1, 1}
+#define WETHLORN_VIEW_DESC_INIT {WETHLORN_NONE, WETHLORN_NONE, 0, WETHLORN_ASPECT_ALL, 0, 0}
+/* Of no kind, which has to be set. */
+#define WETHLORN_BINDING_INIT \
+    {0, 0, 0, WETHLORN_FILTERING, WETHLORN_SAMPLE_FLOAT, WETHLORN_VIEW_2D, 0, WETHLORN_ACCESS_WRITE_ONLY, 0}
+#define WETHLORN_LAYOUT_ENTRY_INIT {0, WETHLORN_VISIBILITY_NONE, WETHLORN_BINDING_INIT}
+#define WETHLORN_IFACE_ENTRY_INIT {0, 0, WETHLORN_STAGE_NONE, WETHLORN_BINDING_INIT}
+#define WETHLORN_GROUP_ENTRY_INIT {WETHLORN_NONE, 0, WETHLORN_NONE, 0, 0}
+#define WETHLORN_VERTEX_BUFFER_INIT {0, WETHLORN_STEP_PER_VERTEX}
+#define WETHLORN_VERTEX_ATTRIBUTE_INIT {0, 0, 0, 0}
+#define WETHLORN_RENDER_DESC_INIT {WETHLORN_NONE, 1, 0, 0, 0}
+#define WETHLORN_BUNDLE_DESC_INIT {1, 0, 0, 0}
+#define WETHLORN_COLOR_INIT {WETHLORN_NONE, WETHLORN_NONE, WETHLORN_NONE, 0, 0}
+#define WETHLORN_DEPTH_INIT {WETHLORN_NONE, 0, 0, 0, 0, 0, 0}
+#define WETHLORN_TEXEL_LAYOUT_INIT {0, WETHLORN_NONE, WETHLORN_NONE}
+#define WETHLORN_SPOT_INIT {WETHLORN_NONE, WETHLORN_ORIGIN_INIT, 0, WETHLORN_ASPECT_ALL}
+#define WETHLORN_BUFFER_COPY_INIT {WETHLORN_NONE, 0, WETHLORN_NONE, 0, 0}
+#define WETHLORN_TEXEL_COPY_INIT \
+    {WETHLORN_NONE, WETHLORN_TEXEL_LAYOUT_INIT, WETHLORN_SPOT_INIT, WETHLORN_EXTENT_INIT}
+#define WETHLORN_TEXTURE_COPY_INIT \
+    {WETHLORN_NONE, WETHLORN_NONE, WETHLORN_ORIGIN_INIT, WETHLORN_ORIGIN_INIT, 0, 0, WETHLORN_EXTENT_INIT}
+#define WETHLORN_TEXTURE_WRITE_INIT \
+    {WETHLORN_TEXEL_LAYOUT_INIT, WETHLORN_SPOT_INIT, WETHLORN_EXTENT_INIT, 0}
 
 /* ---- Devices ---- */
 
@@ -548,11 +655,10 @@ uint32_t wethlorn_write_buffer(wethlorn_device *device, uint32_t who, uint64_t b
 uint32_t wethlorn_write_texture(wethlorn_device *device, uint32_t who, const wethlorn_texture_write *write,
     wethlorn_reply *out);
 
-/* Asks for a mapping of a range of a buffer (mapAsync), which makes a promise. `mode` is 1 to read and 2
- * to write, and other numbers are answered by a fault. `size` may be WETHLORN_NONE. Status: OK, NO_MEMORY,
- * NO_OBJECT, CLOSED. Owner: the arguments stay the caller's. Thread: any, one at a time, under the
- * caller's lock. */
-uint32_t wethlorn_map_async(wethlorn_device *device, uint32_t who, uint64_t buffer, uint32_t mode,
+/* Asks for a mapping of a range of a buffer (mapAsync), which makes a promise. Each `mode` but the two that
+ * have a name is answered by a fault. `size` may be WETHLORN_NONE. Status: OK, NO_MEMORY, NO_OBJECT,
+ * CLOSED. Owner: the arguments stay the caller's. Thread: any, one at a time, under the caller's lock. */
+uint32_t wethlorn_map_async(wethlorn_device *device, uint32_t who, uint64_t buffer, wethlorn_map_mode mode,
     uint64_t offset, uint64_t size, wethlorn_reply *out);
 
 /* Ends the mapping of a buffer, or gives up the one that was asked for (unmap). Status: OK, NO_MEMORY,
@@ -589,8 +695,12 @@ uint32_t wethlorn_push_error_scope(wethlorn_device *device, uint32_t who, uint32
  * at a time, under the caller's lock. */
 uint32_t wethlorn_pop_error_scope(wethlorn_device *device, uint32_t who, wethlorn_reply *out);
 
-/* The device is lost from here on (destroy of a device, or a loss). Status: OK, NO_MEMORY, CLOSED. Owner:
- * the arguments stay the caller's. Thread: any, one at a time, under the caller's lock. */
+/* The device is lost from here on (destroy of a device, or a loss). The maps and the workDone promises that
+ * wait are settled, and nothing is released: operations that are queued are not complete by it, buffers that
+ * are mapped stay so, and an object is given up by its destroy or its drop, as before. So go on to complete
+ * what the GPU has done, or will never touch again, and to drop; each release then comes by the drain. Status:
+ * OK, NO_MEMORY, CLOSED. Owner: the arguments stay the caller's. Thread: any, one at a time, under the
+ * caller's lock. */
 uint32_t wethlorn_lose(wethlorn_device *device, uint32_t who, wethlorn_reply *out);
 
 /* ---- Commands. They are recorded on an encoder or a bundle encoder. `pass` is the number of a pass that was
@@ -760,5 +870,19 @@ uint32_t wethlorn_next_settlement(wethlorn_device *device, wethlorn_settlement *
 
 #ifdef __cplusplus
 }
+
+/* What joins flags in C++, in which a number is none. */
+#define WETHLORN_FLAGS(flags) \
+    constexpr flags operator|(flags one, flags other) { \
+        return static_cast<flags>(static_cast<uint32_t>(one) | static_cast<uint32_t>(other)); \
+    } \
+    inline flags &operator|=(flags &one, flags other) { return one = one | other; }
+
+WETHLORN_FLAGS(wethlorn_buffer_usage)
+WETHLORN_FLAGS(wethlorn_texture_usage)
+WETHLORN_FLAGS(wethlorn_visibility)
+WETHLORN_FLAGS(wethlorn_map_mode)
+#undef WETHLORN_FLAGS
 #endif
+#undef WETHLORN_ENUM
 #endif

@@ -25,7 +25,7 @@
 #include <string.h>
 #include <sys/resource.h>
 
-enum { ME = 0, SIZE = 64, PART = 16, KEPT = 1000, BEHIND = 3, COPY_SRC = 4, COPY_DST = 8, UNIFORM = 64, STORAGE = 128, COMPUTE = 4 };
+enum { ME = 0, SIZE = 64, PART = 16, KEPT = 1000, BEHIND = 3 };
 
 /* A device, and what was asked of it. `due` has the operations of the last rounds, in turn. */
 typedef struct driven {
@@ -66,7 +66,7 @@ static void drain(driven *it) {
         continue;
 }
 
-static uint64_t make_buffer(driven *it, uint32_t usage) {
+static uint64_t make_buffer(driven *it, wethlorn_buffer_usage usage) {
     wethlorn_buffer_desc desc = {.size = SIZE, .usage = usage};
     wethlorn_reply reply = {0};
     return given(it, "createBuffer", wethlorn_create_buffer(&it->device, ME, &desc, &reply), &reply);
@@ -133,9 +133,9 @@ static void end_buffer(driven *it, uint64_t buffer, uint64_t keeps, uint64_t rou
 
 /* So many rounds. The operation of a round is completed at once, or so many rounds later; the last ones at the end. */
 static void take_rounds(driven *it, uint64_t count, uint64_t keeps, uint64_t behind) {
-    uint64_t target = make_buffer(it, COPY_DST), op = 0;
+    uint64_t target = make_buffer(it, WETHLORN_BUFFER_USAGE_COPY_DST), op = 0;
     for (uint64_t round = 0; round < count; round++) {
-        uint64_t buffer = make_buffer(it, COPY_SRC | COPY_DST), encoder, commands;
+        uint64_t buffer = make_buffer(it, WETHLORN_BUFFER_USAGE_COPY_SRC | WETHLORN_BUFFER_USAGE_COPY_DST), encoder, commands;
         write_buffer(it, buffer);
         encoder = make_encoder(it);
         copy(it, encoder, buffer, target);
@@ -170,8 +170,8 @@ static void behind(driven *it, uint64_t count) {
 /* A layout of one storage and one uniform buffer, which compute shaders see. */
 static uint64_t make_layout(driven *it) {
     wethlorn_layout_entry entries[] = {
-        {.binding = 0, .visibility = COMPUTE, .holds = {.kind = WETHLORN_BIND_STORAGE}},
-        {.binding = 1, .visibility = COMPUTE, .holds = {.kind = WETHLORN_BIND_UNIFORM}},
+        {.binding = 0, .visibility = WETHLORN_VISIBILITY_COMPUTE, .holds = {.kind = WETHLORN_BIND_STORAGE}},
+        {.binding = 1, .visibility = WETHLORN_VISIBILITY_COMPUTE, .holds = {.kind = WETHLORN_BIND_UNIFORM}},
     };
     wethlorn_reply reply = {0};
     return given(it, "createBindGroupLayout", wethlorn_create_bind_group_layout(&it->device, ME, entries, 2, &reply), &reply);
@@ -226,7 +226,7 @@ static void end_pass(driven *it, uint64_t encoder, uint32_t pass) {
 
 static void dispatches(driven *it, uint64_t count) {
     uint64_t layout = make_layout(it), pipeline = make_pipeline(it, layout);
-    uint64_t group = make_group(it, layout, make_buffer(it, STORAGE), make_buffer(it, UNIFORM));
+    uint64_t group = make_group(it, layout, make_buffer(it, WETHLORN_BUFFER_USAGE_STORAGE), make_buffer(it, WETHLORN_BUFFER_USAGE_UNIFORM));
     uint64_t encoder = make_encoder(it);
     uint32_t pass = begin_pass(it, encoder);
     set_pipeline(it, encoder, pass, pipeline);
@@ -239,14 +239,14 @@ static void dispatches(driven *it, uint64_t count) {
 }
 
 static void copies(driven *it, uint64_t count) {
-    uint64_t source = make_buffer(it, COPY_SRC), target = make_buffer(it, COPY_DST), encoder = make_encoder(it);
+    uint64_t source = make_buffer(it, WETHLORN_BUFFER_USAGE_COPY_SRC), target = make_buffer(it, WETHLORN_BUFFER_USAGE_COPY_DST), encoder = make_encoder(it);
     for (uint64_t at = 0; at < count; at++)
         copy(it, encoder, source, target);
     finish(it, encoder);
 }
 
 static void writes(driven *it, uint64_t count) {
-    uint64_t buffer = make_buffer(it, COPY_DST), op = 0;
+    uint64_t buffer = make_buffer(it, WETHLORN_BUFFER_USAGE_COPY_DST), op = 0;
     for (uint64_t at = 0; at < count; at++)
         op = write_buffer(it, buffer);
     if (count)
@@ -254,7 +254,7 @@ static void writes(driven *it, uint64_t count) {
 }
 
 static void encoders(driven *it, uint64_t count) {
-    uint64_t source = make_buffer(it, COPY_SRC), target = make_buffer(it, COPY_DST);
+    uint64_t source = make_buffer(it, WETHLORN_BUFFER_USAGE_COPY_SRC), target = make_buffer(it, WETHLORN_BUFFER_USAGE_COPY_DST);
     for (uint64_t at = 0; at < count; at++) {
         uint64_t encoder = make_encoder(it);
         copy(it, encoder, source, target);
@@ -263,7 +263,7 @@ static void encoders(driven *it, uint64_t count) {
 }
 
 static void groups(driven *it, uint64_t count) {
-    uint64_t layout = make_layout(it), storage = make_buffer(it, STORAGE), uniform = make_buffer(it, UNIFORM);
+    uint64_t layout = make_layout(it), storage = make_buffer(it, WETHLORN_BUFFER_USAGE_STORAGE), uniform = make_buffer(it, WETHLORN_BUFFER_USAGE_UNIFORM);
     for (uint64_t at = 0; at < count; at++)
         drop(it, make_group(it, layout, storage, uniform));
 }

@@ -12,8 +12,8 @@ import subprocess
 import sys
 from typing import Dict, List, NamedTuple, Optional, Sequence, Tuple
 
-from shared import archive
 from wgsim import TOP
+from wgsim.program import archive
 
 DOCUMENT = TOP / "docs/costs.md"
 SOURCE, INCLUDE = TOP / "measure/loop.c", TOP / "include"

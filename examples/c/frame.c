@@ -29,19 +29,21 @@ static uint64_t told(frame *it, const char *word, uint32_t status) {
     return it->reply.number;
 }
 
-static uint64_t buffer(frame *it, uint64_t size, uint32_t usage) {
+static uint64_t buffer(frame *it, uint64_t size, wethlorn_buffer_usage usage) {
     wethlorn_buffer_desc desc = {.size = size, .usage = usage};
     return told(it, "createBuffer", wethlorn_create_buffer(&it->device, ME, &desc, &it->reply));
 }
 
-static uint64_t texture(frame *it, uint32_t side, uint32_t usage, uint32_t format, uint32_t mips, uint32_t samples) {
+static uint64_t texture(frame *it, uint32_t side, wethlorn_texture_usage usage, uint32_t format, uint32_t mips, uint32_t samples) {
     wethlorn_texture_desc desc = {.size = {side, side, 1}, .usage = usage, .format = format, .dim = WETHLORN_2D, .mips = mips, .samples = samples};
     return told(it, "createTexture", wethlorn_create_texture(&it->device, ME, &desc, &it->reply));
 }
 
 /* A view of some mip levels, or of all from `base` on where they are WETHLORN_NONE. */
 static uint64_t view(frame *it, uint64_t of, uint32_t base, uint64_t mips) {
-    wethlorn_view_desc desc = {.mips = mips, .layers = WETHLORN_NONE, .aspect = WETHLORN_ASPECT_ALL, .base_mip = base};
+    wethlorn_view_desc desc = WETHLORN_VIEW_DESC_INIT;
+    desc.mips = mips;
+    desc.base_mip = base;
     return told(it, "createView", wethlorn_create_view(&it->device, ME, of, &desc, &it->reply));
 }
 
@@ -53,7 +55,7 @@ static wethlorn_binding storage(void) {
     return (wethlorn_binding){.kind = WETHLORN_BIND_STORAGE};
 }
 
-static uint64_t layout(frame *it, uint32_t visibility, wethlorn_binding holds) {
+static uint64_t layout(frame *it, wethlorn_visibility visibility, wethlorn_binding holds) {
     wethlorn_layout_entry entry = {.visibility = visibility, .holds = holds};
     return told(it, "createBindGroupLayout", wethlorn_create_bind_group_layout(&it->device, ME, &entry, 1, &it->reply));
 }
@@ -63,19 +65,23 @@ static uint64_t pipeline_layout(frame *it, const uint64_t *layouts, size_t count
 }
 
 static uint64_t group(frame *it, uint64_t of, uint32_t bound, uint64_t object) {
-    wethlorn_group_entry entry = {.object = object, .size = WETHLORN_NONE, .bound = bound};
+    wethlorn_group_entry entry = WETHLORN_GROUP_ENTRY_INIT;
+    entry.object = object;
+    entry.bound = bound;
     return told(it, "createBindGroup", wethlorn_create_bind_group(&it->device, ME, of, &entry, 1, &it->reply));
 }
 
 static void make_resources(frame *it) {
-    it->vertices = buffer(it, 96, 40);
-    it->texture = texture(it, 4, 22, WETHLORN_RGBA8_UNORM, 2, 1);
-    it->shadow = texture(it, 8, 20, WETHLORN_DEPTH32_FLOAT, 1, 1);
-    it->samples = texture(it, 8, 16, WETHLORN_RGBA8_UNORM, 1, 4);
-    it->depth = texture(it, 8, 16, WETHLORN_DEPTH24_PLUS, 1, 4);
-    it->color = texture(it, 8, 20, WETHLORN_RGBA8_UNORM, 1, 1);
-    it->sums = buffer(it, 256, 132);
-    it->readback = buffer(it, 256, 9);
+    const wethlorn_texture_usage drawn_to = WETHLORN_TEXTURE_USAGE_RENDER_ATTACHMENT;
+    const wethlorn_texture_usage sampled_too = drawn_to | WETHLORN_TEXTURE_USAGE_TEXTURE_BINDING;
+    it->vertices = buffer(it, 96, WETHLORN_BUFFER_USAGE_COPY_DST | WETHLORN_BUFFER_USAGE_VERTEX);
+    it->texture = texture(it, 4, sampled_too | WETHLORN_TEXTURE_USAGE_COPY_DST, WETHLORN_RGBA8_UNORM, 2, 1);
+    it->shadow = texture(it, 8, sampled_too, WETHLORN_DEPTH32_FLOAT, 1, 1);
+    it->samples = texture(it, 8, drawn_to, WETHLORN_RGBA8_UNORM, 1, 4);
+    it->depth = texture(it, 8, drawn_to, WETHLORN_DEPTH24_PLUS, 1, 4);
+    it->color = texture(it, 8, sampled_too, WETHLORN_RGBA8_UNORM, 1, 1);
+    it->sums = buffer(it, 256, WETHLORN_BUFFER_USAGE_COPY_SRC | WETHLORN_BUFFER_USAGE_STORAGE);
+    it->readback = buffer(it, 256, WETHLORN_BUFFER_USAGE_MAP_READ | WETHLORN_BUFFER_USAGE_COPY_DST);
     it->level0 = view(it, it->texture, 0, 1);
     it->level1 = view(it, it->texture, 1, 1);
     it->levels = view(it, it->texture, 0, WETHLORN_NONE);
@@ -86,9 +92,9 @@ static void make_resources(frame *it) {
 }
 
 static void make_groups(frame *it) {
-    it->sampled_layout = layout(it, 6, sampled(WETHLORN_SAMPLE_FLOAT));
-    it->shadow_layout = layout(it, 2, sampled(WETHLORN_SAMPLE_DEPTH));
-    it->storage_layout = layout(it, 4, storage());
+    it->sampled_layout = layout(it, WETHLORN_VISIBILITY_FRAGMENT | WETHLORN_VISIBILITY_COMPUTE, sampled(WETHLORN_SAMPLE_FLOAT));
+    it->shadow_layout = layout(it, WETHLORN_VISIBILITY_FRAGMENT, sampled(WETHLORN_SAMPLE_DEPTH));
+    it->storage_layout = layout(it, WETHLORN_VISIBILITY_COMPUTE, storage());
     it->mips = pipeline_layout(it, &it->sampled_layout, 1);
     it->scene = pipeline_layout(it, (uint64_t[]){it->sampled_layout, it->shadow_layout}, 2);
     it->sum = pipeline_layout(it, (uint64_t[]){it->sampled_layout, it->storage_layout}, 2);
@@ -157,8 +163,11 @@ static uint32_t begin(frame *it, wethlorn_color color, size_t colors, wethlorn_d
 }
 
 static void record_mip(frame *it) {
-    wethlorn_color level = {.view = it->level1, .depth_slice = WETHLORN_NONE, .resolve = WETHLORN_NONE, .load = WETHLORN_CLEAR, .store = WETHLORN_STORE};
-    wethlorn_depth none = {.view = WETHLORN_NONE};
+    wethlorn_color level = WETHLORN_COLOR_INIT;
+    wethlorn_depth none = WETHLORN_DEPTH_INIT;
+    level.view = it->level1;
+    level.load = WETHLORN_CLEAR;
+    level.store = WETHLORN_STORE;
     uint32_t pass = begin(it, level, 1, none);
     set_pipeline(it, pass, it->mip_pipeline);
     set_group(it, pass, 0, it->level0_group);
@@ -167,7 +176,7 @@ static void record_mip(frame *it) {
 }
 
 static void record_shadow(frame *it) {
-    wethlorn_color none = {.view = WETHLORN_NONE};
+    wethlorn_color none = WETHLORN_COLOR_INIT;
     wethlorn_depth depth = {.view = it->shadow_view, .depth_load = WETHLORN_CLEAR, .depth_store = WETHLORN_STORE};
     uint32_t pass = begin(it, none, 0, depth);
     set_pipeline(it, pass, it->shadow_pipeline);
@@ -206,7 +215,7 @@ static void draw_frame(frame *it) {
     record_sum(it);
     it->commands = told(it, "finish", wethlorn_finish(&it->device, ME, it->encoder, &it->reply));
     uint64_t operation = told(it, "submit", wethlorn_submit(&it->device, ME, &it->commands, 1, &it->reply));
-    told(it, "mapAsync", wethlorn_map_async(&it->device, ME, it->readback, 1, 0, WETHLORN_NONE, &it->reply));
+    told(it, "mapAsync", wethlorn_map_async(&it->device, ME, it->readback, WETHLORN_MAP_MODE_READ, 0, WETHLORN_NONE, &it->reply));
     told(it, "complete", wethlorn_complete(&it->device, ME, operation, &it->reply));
 }
 

@@ -14,7 +14,7 @@ public:
     Device(const Device &) = delete;
     Device &operator=(const Device &) = delete;
 
-    wethlorn_reply createBuffer(uint64_t size, uint32_t usage) {
+    wethlorn_reply createBuffer(uint64_t size, wethlorn_buffer_usage usage) {
         const wethlorn_buffer_desc desc = {size, usage, 0};
         wethlorn_reply reply = {};
         check(wethlorn_create_buffer(&device, 0, &desc, &reply));
@@ -36,12 +36,12 @@ private:
     }
     // Each device of a process gets another number.
     static inline uint64_t serials = 0;
-    wethlorn_device device = {};
+    wethlorn_device device = WETHLORN_DEVICE_INIT;
 };
 
 int main() {
     Device device(1024);
-    const wethlorn_reply buffer = device.createBuffer(16, 8);
+    const wethlorn_reply buffer = device.createBuffer(16, WETHLORN_BUFFER_USAGE_COPY_DST | WETHLORN_BUFFER_USAGE_VERTEX);
     const wethlorn_reply written = device.writeBuffer(buffer.number, 0, 16);
     const wethlorn_reply beyond = device.writeBuffer(buffer.number, 16, 16);
     std::cout << "buffer " << buffer.number << ", operation " << written.number << ", rule " << beyond.rule << "\n";

@@ -8,7 +8,7 @@
 #include <stdio.h>
 #include <stdlib.h>
 
-enum { THREADS = 8, CALLS_OF_A_ROUND = 5, SIZE = 64, COPY_DST = 8 };
+enum { THREADS = 8, CALLS_OF_A_ROUND = 5, SIZE = 64 };
 
 /* What the threads share. All of it stands behind the lock. */
 typedef struct shared {
@@ -57,7 +57,7 @@ static void count(shared *it, uint32_t status, const wethlorn_reply *reply) {
 }
 
 static uint64_t make(shared *it, uint32_t who) {
-    wethlorn_buffer_desc desc = {.size = SIZE, .usage = COPY_DST};
+    wethlorn_buffer_desc desc = {.size = SIZE, .usage = WETHLORN_BUFFER_USAGE_COPY_DST};
     wethlorn_reply reply = {.number = 0};
     pthread_mutex_lock(&it->lock);
     count(it, wethlorn_create_buffer(&it->device, who, &desc, &reply), &reply);

@@ -1,4 +1,5 @@
-"""Whether the Rust crate declares what the header declares: the same structs, field by field, the same functions and the same numbers."""
+"""Whether the Rust crate declares what the header declares: the same structs, field by field, the same functions, the same numbers, and the
+same that descriptors begin with."""
 
 import re
 
@@ -25,6 +26,30 @@ def of_header(text):
     return structs, functions, numbers
 
 
+def begins_of_header(text):
+    """The fields of each descriptor as its WETHLORN_.._INIT has them, in their order: numbers, names, or what another one begins with."""
+    text = re.sub(r"/\*.*?\*/", "", text, flags=re.S)
+    found = {}
+    for name, body in re.findall(r"#define WETHLORN_(\w+)_INIT(?: \\\n   )? \{(.*)\}", text):
+        found[name_of(name.lower())] = [re.sub(r"^WETHLORN_", "", each) for each in body.split(", ")]
+    return found
+
+
+def begins_of_rust(text):
+    """The same of the crate, of those that have it of their own, in the words of the header."""
+    found = {}
+    for name, body in re.findall(r"impl Default for (\w+) \{.*?Self \{(.*?)\}", text, re.S):
+        found[name] = [in_header(value) for value in re.findall(r"\w+: ([\w:()]+),", body)]
+    return found
+
+
+def in_header(value):
+    """What a value of the crate is called in the header, without WETHLORN_."""
+    value = re.sub(r"(\w+)::default\(\)", r"\1_INIT", re.sub(r"^DIM_", "", value))
+    words = re.sub(r"(?<=[a-z])(?=[A-Z])", "_", value.replace("::", "_"))
+    return words.upper()
+
+
 def of_rust(text):
     text = re.sub(r"//.*", "", text)
     structs, functions = {}, {}
@@ -33,6 +58,9 @@ def of_rust(text):
     for name, given in re.findall(r"pub fn (wethlorn_\w+)\((.*?)\) -> u32;", text, re.S):
         functions[name] = re.findall(r"(\w+): ([\w* ]+)", given)
     numbers = {name: int(value) for name, value in re.findall(r"pub const (\w+): u32 = (\d+);", text)}
+    for kind, body in re.findall(r"^impl (\w+) \{(.*?)^\}", text, re.M | re.S):
+        own = re.findall(r"const (\w+): Self = Self\((\d+)\);", body)
+        numbers.update({in_header(f"{kind}::{name}"): int(value) for name, value in own})
     return structs, functions, numbers
 
 
@@ -47,3 +75,18 @@ def differences(header, rust):
     for name, value in in_rust[2].items():
         if numbers.get(re.sub(r"^DIM_", "", name)) != value:
             yield f"the number {name} is {value} in the Rust crate, and {numbers.get(name)} in the header"
+    yield from begins_apart(structs, header, rust)
+
+
+def begins_apart(structs, header, rust):
+    """Where a descriptor begins otherwise, or has nothing to begin with. One that has no impl of its own in the crate has there 0, no flag,
+    or what another begins with, in each of its fields."""
+    begins, in_rust = begins_of_header(header), begins_of_rust(rust)
+    given = {name_of(kind) for kind in re.findall(r"const (wethlorn_\w+) \*", header)}
+    for name in sorted({*begins, *in_rust, *given}):
+        wanted, fields = begins.get(name, []), structs.get(name, [])
+        if len(wanted) != len(fields):
+            yield f"the header has {len(wanted)} values with which {name} begins, and {len(fields)} fields of it"
+        is_derived = all(value == "0" or value.endswith(("_NONE", "_INIT")) for value in wanted)
+        if in_rust.get(name) != wanted and not (name not in in_rust and is_derived):
+            yield f"{name} begins with {in_rust.get(name)} in the Rust crate, and with {wanted} in the header"

@@ -2,8 +2,8 @@
 
 usage: tests/c/run [--archive FILE] [--libc FILE] [--jobs N]
 
-The archive is built over what is proved here (tests/shared/archive.py), or is the one that is named; --libc names what stands for the
-heap of the C library in place of the toolchain's. It needs a C compiler and the JSON library Jansson (Debian: libjansson-dev), without
+The archive is built over what is proved here (tools/wgsim/program/archive.py), or is the one that is named; --libc names what stands for
+the heap of the C library in place of the toolchain's. It needs a C compiler and the JSON library Jansson (Debian: libjansson-dev), without
 which no script is played, and that is a finding; and it takes clang or gcc, a C++ compiler, valgrind and cargo where they are there.
 Prints what it has tested, a line for each finding, and fails if there is one, or if nothing could be tested.
 """
@@ -19,7 +19,7 @@ import sys
 import tempfile
 
 import declared
-from shared import archive
+from wgsim.program import archive
 
 TOP = pathlib.Path(__file__).resolve().parents[2]
 
@@ -33,6 +33,21 @@ SECONDS = 600
 # Each allocation is refused on these, and valgrind plays them: a whole frame, a bundle with queries, and callers that race.
 CLOSELY = ["examples/realistic-frame", "tests/cases/bundles/bundle-and-occlusion-queries", "examples/submit-races-destroy"]
 CALLS_OF_THREADS = 40_000
+# Types with values that they are to take, and with values that they are not to.
+FLAGS = [
+    ("wethlorn_visibility", "WETHLORN_VISIBILITY_VERTEX | WETHLORN_VISIBILITY_COMPUTE", True),
+    ("wethlorn_visibility", "WETHLORN_STAGE_COMPUTE", False),
+    ("wethlorn_stage", "WETHLORN_STAGE_COMPUTE", True),
+    ("wethlorn_stage", "WETHLORN_VISIBILITY_VERTEX", False),
+    ("wethlorn_buffer_usage", "WETHLORN_BUFFER_USAGE_MAP_READ | WETHLORN_BUFFER_USAGE_COPY_DST", True),
+    ("wethlorn_buffer_usage", "WETHLORN_TEXTURE_USAGE_COPY_DST", False),
+    ("wethlorn_texture_usage", "WETHLORN_BUFFER_USAGE_COPY_DST", False),
+    ("wethlorn_map_mode", "WETHLORN_MAP_MODE_READ", True),
+    ("wethlorn_map_mode", "WETHLORN_BUFFER_USAGE_MAP_READ", False),
+    ("wethlorn_color", "WETHLORN_COLOR_INIT", True),
+    ("wethlorn_texture_write", "WETHLORN_TEXTURE_WRITE_INIT", True),
+    ("wethlorn_iface_entry", "WETHLORN_IFACE_ENTRY_INIT", True),
+]
 findings = []
 
 
@@ -43,7 +58,8 @@ def check(is_so, text):
 
 def run(words, **how):
     """Runs a command, and returns its status and what it wrote, both streams in one where it is not told otherwise."""
-    how = {"stdin": subprocess.DEVNULL, "stdout": subprocess.PIPE, "stderr": subprocess.STDOUT, "timeout": SECONDS, **how}
+    how = {"stdout": subprocess.PIPE, "stderr": subprocess.STDOUT, "timeout": SECONDS, **how}
+    how.update({} if "input" in how else {"stdin": subprocess.DEVNULL})
     ran = subprocess.run([str(word) for word in words], **how)
     return ran.returncode, ran.stdout
 
@@ -75,9 +91,20 @@ def test_header():
             compiles([compiler, *CXX, "-pedantic"], EXAMPLES / "holder.cpp", f"holder.cpp by {compiler}")
 
 
+def test_types():
+    """A compiler tells where a flag or a stage stands for another, and takes what is right. So it is in C and in C++."""
+    for compiler, words in (("gcc", C), ("clang", C), ("g++", CXX), ("clang++", CXX)):
+        if shutil.which(compiler):
+            for name, value, is_right in FLAGS:
+                source = f"#include <wethlorn.h>\nvoid f(void); void f(void) {{ {name} it = {value}; (void)it; }}\n"
+                language = ["-x", "c" if words is C else "c++", "-"]
+                told, _ = run([compiler, *words, "-pedantic", "-fsyntax-only", "-I", INCLUDE, *language], input=source.encode())
+                check((told == 0) == is_right, f"{compiler} {'refuses' if is_right else 'takes'} `{value}` as {name}")
+
+
 def test_declarations():
     """The Rust crate declares what the header does."""
-    rust = "".join((TOP / "examples/rust/src" / name).read_text(encoding="utf-8") for name in ("raw.rs", "values.rs"))
+    rust = "".join((TOP / "examples/rust/src" / name).read_text(encoding="utf-8") for name in ("raw.rs", "values.rs", "defaults.rs"))
     findings.extend(declared.differences((INCLUDE / "wethlorn.h").read_text(encoding="utf-8"), rust))
 
 
@@ -281,6 +308,7 @@ def main():
     parser.add_argument("--jobs", type=int, default=len(os.sched_getaffinity(0)))
     words = parser.parse_args()
     test_header()
+    test_types()
     test_declarations()
     if words.archive or archive.is_there():
         test_programs(words)

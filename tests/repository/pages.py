@@ -14,6 +14,7 @@ LEAST_SENTENCE = 60
 HEADING = re.compile(r"^#{1,6} (.*)$", re.M)
 INNER = re.compile(r"\]\(#([^)]+)\)")
 SHOWN = re.compile(r"^```.*?^```", re.M | re.S)
+PARTS = ("MAJOR", "MINOR", "PATCH")
 WRITTEN = ("rules.md", "definitions.md")
 TREE = re.compile(r"^## The folders\n.*?^```\n(.*?)^```$", re.M | re.S)
 
@@ -93,6 +94,7 @@ def check_version(top, crates, findings):
     version = (top / "VERSION").read_text(encoding="utf-8").strip()
     for name, line in (
         ("include/wethlorn.h", f'#define WETHLORN_VERSION "{version}"'),
+        *(("include/wethlorn.h", f"#define WETHLORN_VERSION_{part} {number}") for part, number in zip(PARTS, version.split("."))),
         ("examples/rust/Cargo.toml", f'version = "{version}"'),
         ("examples/rust/Cargo.lock", f'version = "{version}"'),
     ):

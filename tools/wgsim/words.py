@@ -12,7 +12,7 @@ from typing import Any, Callable, NoReturn
 
 from wgsim import TOP, commands, exit_status
 from wgsim.inputs import STANDARD, write
-from wgsim.program import building
+from wgsim.program import building, release
 from wgsim.program.program import NAMED
 
 NAME = "wgsim"
@@ -22,7 +22,7 @@ A small tool around the proved program: it plays scripts, and explains, draws an
 FILE is a script; with no FILE, or -, it is standard input. The proved program answers where `wgsim prove` has built it from
 the sources as they are; else the program is compiled without its proofs, in about a minute, once, and a line on standard
 error says so. --proved refuses all answers but those of the proved program, and --unproved asks for the other one. Both need
-the toolchain `rt`.
+the toolchain `rt`. A release has the program beside it, and needs none.
 """
 STATUSES = """\
 `wgsim COMMAND --help` has the words of a command.
@@ -124,6 +124,8 @@ def version() -> str:
     def of(is_current: bool, program: pathlib.Path, done: str) -> str:
         return f"{done} from these sources" if is_current else f"{done} from other sources" if program.exists() else f"not {done}"
 
+    if release.is_one():
+        return "".join(line + "\n" for line in release.version())
     by = "the proved program" if building.is_built() else "the program without proofs; `./wgsim prove` proves and builds it"
     lines = [
         f"wgsim of Wethlorn {(TOP / 'VERSION').read_text(encoding='utf-8').strip()}, sources {building.sum_of_sources()[:12]}",
@@ -147,6 +149,8 @@ def act(given: list[str]) -> int:
         return exit_status.SAME
     if words.is_proved and (NAMED in os.environ or not building.is_built()):
         why = "the proved program is not built from these sources, and --proved takes no other: `./wgsim prove` builds it"
+        if release.is_one():
+            why = f"--proved takes no other than the proved program, and {release.said()} is here"
         raise exit_status.End(exit_status.NOT_BUILT, why)
     return found[words.command].act(words)
 

@@ -22,7 +22,7 @@ fn number(reply: Reply) -> u64 {
     reply.object().expect("the object is valid")
 }
 
-fn texture(device: &mut Device, usage: u32) -> Result<u64, Error> {
+fn texture(device: &mut Device, usage: TextureUsage) -> Result<u64, Error> {
     let size = Extent {
         width: 4,
         height: 4,
@@ -62,7 +62,7 @@ fn pipeline(device: &mut Device, sampled: u64) -> Result<(u64, u64), Error> {
     let iface = [IfaceEntry {
         group: 0,
         binding: 0,
-        stage: STAGE_FRAGMENT,
+        stage: Stage::FRAGMENT,
         holds,
     }];
     let desc = RenderDesc {
@@ -157,15 +157,15 @@ fn draw(device: &mut Device, target: u64, color: u64, drawn: (u64, u64), read: u
 
 fn main() -> Result<(), Error> {
     let mut device = Device::open(1_000_000, &[])?;
-    let source = texture(&mut device, 6)?;
-    let target = texture(&mut device, 17)?;
+    let source = texture(&mut device, TextureUsage::TEXTURE_BINDING | TextureUsage::COPY_DST)?;
+    let target = texture(&mut device, TextureUsage::RENDER_ATTACHMENT | TextureUsage::COPY_SRC)?;
     let sampled = view(&mut device, source)?;
     let color = view(&mut device, target)?;
     let reply = device.create_buffer(
         ME,
         &BufferDesc {
             size: 1024,
-            usage: 9,
+            usage: BufferUsage::MAP_READ | BufferUsage::COPY_DST,
             mapped: 0,
         },
     )?;
@@ -173,7 +173,7 @@ fn main() -> Result<(), Error> {
     let drawn = pipeline(&mut device, sampled)?;
     write(&mut device, source)?;
     let operation = draw(&mut device, target, color, drawn, read)?;
-    let reply = device.map_async(ME, read, 1, 0, NONE)?;
+    let reply = device.map_async(ME, read, MapMode::READ, 0, NONE)?;
     told(&mut device, "mapAsync", reply);
     let reply = device.complete(ME, operation)?;
     told(&mut device, "complete", reply);

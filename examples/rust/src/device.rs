@@ -194,8 +194,8 @@ impl Device {
         told(|out| unsafe { raw::wethlorn_write_texture(&mut self.raw, who, write, out) })
     }
 
-    /// Asks for a mapping of a range of a buffer (mapAsync), which makes a promise. `mode` is 1 to read and 2 to write, and other numbers are answered by a fault. `size` may be NONE.
-    pub fn map_async(&mut self, who: u32, buffer: u64, mode: u32, offset: u64, size: u64) -> Result<Reply, Error> {
+    /// Asks for a mapping of a range of a buffer (mapAsync), which makes a promise. Each `mode` but READ and WRITE is answered by a fault. `size` may be NONE.
+    pub fn map_async(&mut self, who: u32, buffer: u64, mode: MapMode, offset: u64, size: u64) -> Result<Reply, Error> {
         told(|out| unsafe { raw::wethlorn_map_async(&mut self.raw, who, buffer, mode, offset, size, out) })
     }
 

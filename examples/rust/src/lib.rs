@@ -7,23 +7,25 @@
 //! says nothing of its device, and one of another device is taken for this device's own object of that number.
 //!
 //! ```
-//! use wethlorn::{Answer, BufferDesc, Device};
+//! use wethlorn::{Answer, BufferDesc, BufferUsage, Device};
 //!
 //! # fn main() -> Result<(), wethlorn::Error> {
 //! let mut device = Device::open(1024, &[])?;
-//! let buffer = device.create_buffer(0, &BufferDesc { size: 16, usage: 8, mapped: 0 })?;
+//! let buffer = device.create_buffer(0, &BufferDesc { size: 16, usage: BufferUsage::COPY_DST, mapped: 0 })?;
 //! assert_eq!(buffer.answer, Answer::Made { number: 0, is_valid: true });
 //! # Ok(())
 //! # }
 //! ```
 //!
-//! Two threads share a device by a lock around it, and not without one:
+//! Two threads share a device by a lock around it, and not without one. One lock spans a call, the drain of what comes of it and the doing of
+//! its items: the barriers hold of the order in which the items are told.
 //!
 //! ```compile_fail
 //! fn shared<T: Sync>() {}
 //! shared::<wethlorn::Device>();
 //! ```
 
+mod defaults;
 mod device;
 mod raw;
 mod told;

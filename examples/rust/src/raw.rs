@@ -142,7 +142,7 @@ extern "C" {
         device: *mut Device,
         who: u32,
         buffer: u64,
-        mode: u32,
+        mode: MapMode,
         offset: u64,
         size: u64,
         out: *mut Reply,

@@ -1,5 +1,7 @@
 //! The numbers and the descriptors of the C interface, `include/wethlorn.h`, which says more of each.
 
+use std::ops::{BitOr, BitOrAssign};
+
 /// The version of this crate, which is that of the header, `WETHLORN_VERSION`.
 pub const VERSION: &str = env!("CARGO_PKG_VERSION");
 
@@ -109,10 +111,6 @@ pub const ACCESS_READ_ONLY: u32 = 1;
 pub const ACCESS_WRITE_ONLY: u32 = 2;
 pub const ACCESS_READ_WRITE: u32 = 3;
 
-pub const STAGE_VERTEX: u32 = 1;
-pub const STAGE_FRAGMENT: u32 = 2;
-pub const STAGE_COMPUTE: u32 = 3;
-
 // What an entry of a bind group binds.
 pub const BOUND_BUFFER: u32 = 1;
 pub const BOUND_VIEW: u32 = 2;
@@ -143,6 +141,93 @@ pub const CLEAR: u32 = 2;
 pub const STORE: u32 = 1;
 pub const STORE_DISCARD: u32 = 2;
 
+/// Flags that are joined by `|`.
+macro_rules! flags {
+    ($($name:ident),*) => {$(
+        impl BitOr for $name {
+            type Output = Self;
+            fn bitor(self, other: Self) -> Self {
+                Self(self.0 | other.0)
+            }
+        }
+        impl BitOrAssign for $name {
+            fn bitor_assign(&mut self, other: Self) {
+                self.0 |= other.0;
+            }
+        }
+    )*};
+}
+
+flags!(BufferUsage, TextureUsage, Visibility, MapMode);
+
+/// Usages of a buffer: flags.
+#[repr(transparent)]
+#[derive(Clone, Copy, Debug, Default, PartialEq, Eq)]
+pub struct BufferUsage(pub u32);
+
+impl BufferUsage {
+    pub const NONE: Self = Self(0);
+    pub const MAP_READ: Self = Self(1);
+    pub const MAP_WRITE: Self = Self(2);
+    pub const COPY_SRC: Self = Self(4);
+    pub const COPY_DST: Self = Self(8);
+    pub const INDEX: Self = Self(16);
+    pub const VERTEX: Self = Self(32);
+    pub const UNIFORM: Self = Self(64);
+    pub const STORAGE: Self = Self(128);
+    pub const INDIRECT: Self = Self(256);
+    pub const QUERY_RESOLVE: Self = Self(512);
+}
+
+/// Usages of a texture: flags.
+#[repr(transparent)]
+#[derive(Clone, Copy, Debug, Default, PartialEq, Eq)]
+pub struct TextureUsage(pub u32);
+
+impl TextureUsage {
+    pub const NONE: Self = Self(0);
+    pub const COPY_SRC: Self = Self(1);
+    pub const COPY_DST: Self = Self(2);
+    pub const TEXTURE_BINDING: Self = Self(4);
+    pub const STORAGE_BINDING: Self = Self(8);
+    pub const RENDER_ATTACHMENT: Self = Self(16);
+}
+
+/// To which stages a binding is visible: flags.
+#[repr(transparent)]
+#[derive(Clone, Copy, Debug, Default, PartialEq, Eq)]
+pub struct Visibility(pub u32);
+
+impl Visibility {
+    pub const NONE: Self = Self(0);
+    pub const VERTEX: Self = Self(1);
+    pub const FRAGMENT: Self = Self(2);
+    pub const COMPUTE: Self = Self(4);
+}
+
+/// The stage of a shader: one, and no flags. NONE is answered by an error.
+#[repr(transparent)]
+#[derive(Clone, Copy, Debug, Default, PartialEq, Eq)]
+pub struct Stage(pub u32);
+
+impl Stage {
+    pub const NONE: Self = Self(0);
+    pub const VERTEX: Self = Self(1);
+    pub const FRAGMENT: Self = Self(2);
+    pub const COMPUTE: Self = Self(3);
+}
+
+/// For what a buffer is mapped: flags, of which a mapAsync takes one.
+#[repr(transparent)]
+#[derive(Clone, Copy, Debug, Default, PartialEq, Eq)]
+pub struct MapMode(pub u32);
+
+impl MapMode {
+    pub const NONE: Self = Self(0);
+    pub const READ: Self = Self(1);
+    pub const WRITE: Self = Self(2);
+}
+
 /// A limit that is asked for, by its name `MAX_..` or `MIN_..`.
 #[repr(C)]
 #[derive(Clone, Copy, Debug, Default)]
@@ -153,7 +238,7 @@ pub struct Limit {
 
 /// How large a texture or a copy is. `depth` stands for array layers too.
 #[repr(C)]
-#[derive(Clone, Copy, Debug, Default)]
+#[derive(Clone, Copy, Debug)]
 pub struct Extent {
     pub width: u32,
     pub height: u32,
@@ -169,21 +254,21 @@ pub struct Origin {
     pub z: u32,
 }
 
-/// usage: MAP_READ 1, MAP_WRITE 2, COPY_SRC 4, COPY_DST 8, INDEX 16, VERTEX 32, UNIFORM 64, STORAGE 128, INDIRECT 256, QUERY_RESOLVE 512.
+/// What createBuffer takes.
 #[repr(C)]
 #[derive(Clone, Copy, Debug, Default)]
 pub struct BufferDesc {
     pub size: u64,
-    pub usage: u32,
+    pub usage: BufferUsage,
     pub mapped: u32,
 }
 
-/// usage: COPY_SRC 1, COPY_DST 2, TEXTURE_BINDING 4, STORAGE_BINDING 8, RENDER_ATTACHMENT 16.
+/// What createTexture takes.
 #[repr(C)]
-#[derive(Clone, Copy, Debug, Default)]
+#[derive(Clone, Copy, Debug)]
 pub struct TextureDesc {
     pub size: Extent,
-    pub usage: u32,
+    pub usage: TextureUsage,
     pub format: u32,
     pub dim: u32,
     pub mips: u32,
@@ -192,7 +277,7 @@ pub struct TextureDesc {
 
 /// mips and layers may be NONE, and dim 0.
 #[repr(C)]
-#[derive(Clone, Copy, Debug, Default)]
+#[derive(Clone, Copy, Debug)]
 pub struct ViewDesc {
     pub mips: u64,
     pub layers: u64,
@@ -204,7 +289,7 @@ pub struct ViewDesc {
 
 /// What a binding holds. Of the fields only those of its kind are looked at.
 #[repr(C)]
-#[derive(Clone, Copy, Debug, Default)]
+#[derive(Clone, Copy, Debug)]
 pub struct Binding {
     pub min_size: u64,
     pub kind: u32,
@@ -217,12 +302,12 @@ pub struct Binding {
     pub format: u32,
 }
 
-/// visibility: vertex 1, fragment 2, compute 4.
+/// An entry of a bind group layout.
 #[repr(C)]
 #[derive(Clone, Copy, Debug, Default)]
 pub struct LayoutEntry {
     pub binding: u32,
-    pub visibility: u32,
+    pub visibility: Visibility,
     pub holds: Binding,
 }
 
@@ -232,13 +317,13 @@ pub struct LayoutEntry {
 pub struct IfaceEntry {
     pub group: u32,
     pub binding: u32,
-    pub stage: u32,
+    pub stage: Stage,
     pub holds: Binding,
 }
 
 /// Of a buffer offset and size count, and size may be NONE.
 #[repr(C)]
-#[derive(Clone, Copy, Debug, Default)]
+#[derive(Clone, Copy, Debug)]
 pub struct GroupEntry {
     pub object: u64,
     pub offset: u64,
@@ -249,7 +334,7 @@ pub struct GroupEntry {
 
 /// A vertex buffer that a render pipeline reads.
 #[repr(C)]
-#[derive(Clone, Copy, Debug, Default)]
+#[derive(Clone, Copy, Debug)]
 pub struct VertexBuffer {
     pub stride: u32,
     pub step: u32,
@@ -267,7 +352,7 @@ pub struct VertexAttribute {
 
 /// layout may be NONE: the pipeline derives its layout itself. depth_format may be 0: there is no depth, and depth_write and stencil_write are not looked at.
 #[repr(C)]
-#[derive(Clone, Copy, Debug, Default)]
+#[derive(Clone, Copy, Debug)]
 pub struct RenderDesc {
     pub layout: u64,
     pub samples: u32,
@@ -278,7 +363,7 @@ pub struct RenderDesc {
 
 /// To what a bundle draws, beside its colors. depth_format may be 0.
 #[repr(C)]
-#[derive(Clone, Copy, Debug, Default)]
+#[derive(Clone, Copy, Debug)]
 pub struct BundleDesc {
     pub samples: u32,
     pub depth_format: u32,
@@ -288,7 +373,7 @@ pub struct BundleDesc {
 
 /// A color attachment. view may be NONE: the slot is left out, and nothing else is looked at. depth_slice and resolve may be NONE.
 #[repr(C)]
-#[derive(Clone, Copy, Debug, Default)]
+#[derive(Clone, Copy, Debug)]
 pub struct Color {
     pub view: u64,
     pub depth_slice: u64,
@@ -299,7 +384,7 @@ pub struct Color {
 
 /// The depth and stencil attachment. view may be NONE: there is none, and nothing else is looked at. The load and store operations may be 0.
 #[repr(C)]
-#[derive(Clone, Copy, Debug, Default)]
+#[derive(Clone, Copy, Debug)]
 pub struct Depth {
     pub view: u64,
     pub depth_load: u32,
@@ -312,7 +397,7 @@ pub struct Depth {
 
 /// How texels lie in bytes. bytes_per_row and rows_per_image may be NONE.
 #[repr(C)]
-#[derive(Clone, Copy, Debug, Default)]
+#[derive(Clone, Copy, Debug)]
 pub struct TexelLayout {
     pub offset: u64,
     pub bytes_per_row: u64,
@@ -321,7 +406,7 @@ pub struct TexelLayout {
 
 /// Where in a texture a copy begins.
 #[repr(C)]
-#[derive(Clone, Copy, Debug, Default)]
+#[derive(Clone, Copy, Debug)]
 pub struct Spot {
     pub texture: u64,
     pub origin: Origin,
@@ -331,7 +416,7 @@ pub struct Spot {
 
 /// A copy of bytes.
 #[repr(C)]
-#[derive(Clone, Copy, Debug, Default)]
+#[derive(Clone, Copy, Debug)]
 pub struct BufferCopy {
     pub source: u64,
     pub source_offset: u64,
@@ -342,7 +427,7 @@ pub struct BufferCopy {
 
 /// A copy between a buffer and a texture, in either direction.
 #[repr(C)]
-#[derive(Clone, Copy, Debug, Default)]
+#[derive(Clone, Copy, Debug)]
 pub struct TexelCopy {
     pub buffer: u64,
     pub layout: TexelLayout,
@@ -352,7 +437,7 @@ pub struct TexelCopy {
 
 /// A copy of all aspects between textures.
 #[repr(C)]
-#[derive(Clone, Copy, Debug, Default)]
+#[derive(Clone, Copy, Debug)]
 pub struct TextureCopy {
     pub source: u64,
     pub target: u64,

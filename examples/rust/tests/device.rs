@@ -7,7 +7,7 @@ use wethlorn::*;
 const ME: u32 = 0;
 const DESC: BufferDesc = BufferDesc {
     size: 64,
-    usage: 8,
+    usage: BufferUsage::COPY_DST,
     mapped: 0,
 };
 
@@ -60,7 +60,15 @@ fn a_number_of_another_kind_is_a_fault() {
 fn an_error_scope_receives_a_fault() {
     let mut device = Device::open(1024, &[]).unwrap();
     device.push_error_scope(ME, FILTER_VALIDATION).unwrap();
-    let made = device.create_buffer(ME, &BufferDesc { usage: 0, ..DESC }).unwrap();
+    let made = device
+        .create_buffer(
+            ME,
+            &BufferDesc {
+                usage: BufferUsage::NONE,
+                ..DESC
+            },
+        )
+        .unwrap();
     assert_eq!(
         made.fault,
         Some(Fault {
@@ -77,6 +85,22 @@ fn an_error_scope_receives_a_fault() {
     };
     assert_eq!(device.next_settlement(), Some(Settlement { promise: 2, how }));
     assert_eq!(device.next_settlement(), None);
+}
+
+#[test]
+fn what_is_left_out_of_a_descriptor_names_nothing() {
+    assert_eq!(GroupEntry::default().object, NONE);
+    assert_eq!((Color::default().view, Color::default().resolve), (NONE, NONE));
+    let mut device = Device::open(1024, &[]).unwrap();
+    let encoder = device.create_encoder(ME).unwrap().object().unwrap();
+    let copy = device.copy_buffer_to_buffer(ME, encoder, &BufferCopy::default());
+    assert_eq!(copy.err(), Some(Error::NoObject));
+    let usage = BufferUsage::COPY_DST | BufferUsage::VERTEX;
+    assert!(device
+        .create_buffer(ME, &BufferDesc { usage, ..DESC })
+        .unwrap()
+        .fault
+        .is_none());
 }
 
 #[test]

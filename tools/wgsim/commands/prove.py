@@ -5,7 +5,7 @@ from __future__ import annotations
 import argparse
 
 from wgsim import exit_status
-from wgsim.program import building
+from wgsim.program import building, release
 
 HELP = "proves and builds the program"
 BY_PROGRAM = False
@@ -16,6 +16,8 @@ def add_words(parser: argparse.ArgumentParser) -> None:
 
 
 def act(words: argparse.Namespace) -> int:
+    if release.is_one():
+        raise exit_status.End(exit_status.NOT_BUILT, "a release has its program, and no sources to prove")
     if building.is_built():
         building.say("the proved program is built from these sources already")
     else:

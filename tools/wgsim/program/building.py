@@ -14,7 +14,7 @@ import time
 from typing import Any, Iterator
 
 from wgsim import TOP, exit_status
-from wgsim.program import crates, proof_costs
+from wgsim.program import crates, proof_costs, release
 from wgsim.reading.report import count
 
 CRATE = TOP / "crates/wgsim"
@@ -48,7 +48,9 @@ def stamp_of(program: pathlib.Path, sources: str) -> str:
 
 
 def is_built() -> bool:
-    """Whether the program is built from the sources as they are now."""
+    """Whether the program is built from the sources as they are now, or came so with a release."""
+    if release.is_one():
+        return release.is_proved()
     try:
         return STAMP.read_text(encoding="utf-8") == stamp_of(PROGRAM, sum_of_sources())
     except OSError:

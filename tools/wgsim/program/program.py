@@ -9,7 +9,7 @@ import subprocess
 from typing import BinaryIO, NoReturn
 
 from wgsim import exit_status
-from wgsim.program import building, unproved
+from wgsim.program import building, release, unproved
 
 # Names a program to ask in place of the proved one, for tests of the tool.
 NAMED = "WGSIM_PROGRAM"
@@ -25,16 +25,18 @@ class Program:
     """A program that can be asked about scripts. `said` tells what it is, for those who read its answers.
 
     It is the proved one where that is built from the sources as they are, and else, or where that is asked for, the one that is compiled
-    without proofs, of which one line on standard error says so, unless it is told elsewhere."""
+    without proofs, of which one line on standard error says so, unless it is told elsewhere. In a release it is the one that came with it."""
 
     plays = True
 
     def __init__(self, is_unproved: bool, is_told: bool = True) -> None:
         named = os.environ.get(NAMED)
-        self.is_unproved = not named and (is_unproved or not building.is_built())
+        self.is_unproved = not named and not release.is_one() and (is_unproved or not building.is_built())
         self.answers = {}
         if named:
             self.path, self.said = pathlib.Path(named), f"the program {named}, which {NAMED} names"
+        elif release.is_one():
+            self.path, self.said = release.program(is_unproved), release.said()
         elif self.is_unproved:
             self.path, self.said = unproved.PROGRAM, "the program, compiled WITHOUT its proofs"
         else:

@@ -7,6 +7,8 @@ what `rt check` or `rt lib` kept of the crate in out/incremental: then nothing i
 gate, the crate is checked once more, and kept.
 """
 
+from __future__ import annotations
+
 import os
 import pathlib
 import shutil
@@ -20,32 +22,32 @@ ARCHIVE = CRATE / "out/libwg_c.a"
 STAMP = CRATE / "out/libwg_c.sources"
 
 
-def is_there():
+def is_there() -> bool:
     """Whether the repository has the crate of the exports."""
     return "wg_c" in crates.listed()
 
 
-def kit():
+def kit() -> pathlib.Path | None:
     """The folder of the toolchain, or None."""
     found = shutil.which("rt")
-    return found and pathlib.Path(found).resolve().parent.parent
+    return pathlib.Path(found).resolve().parent.parent if found else None
 
 
-def libc():
+def libc() -> pathlib.Path:
     """What the archive takes of the C library, as the toolchain has it: its heap."""
-    return kit() / "c/liblibc_c.a"
+    return pathlib.Path(f"{kit()}/c/liblibc_c.a")
 
 
-def below():
+def below() -> list[str]:
     """The crates of the repository that the exports stand on, by others too."""
     return [name for name in crates.needed("wg_c") if name != "wg_c"]
 
 
-def library(name):
+def library(name: str) -> pathlib.Path:
     return TOP / "crates" / name / "out/rlib" / f"{name}.rlib"
 
 
-def build():
+def build() -> str | None:
     """Proves the crate of the exports over the libraries that are there, and writes the archive. Returns what was said, if that failed."""
     of_repository, rlibs = crates.listed(), f"{kit()}/rlibs"
     words = [f"{kit()}/bin/rattle", "build", "--crate-name", "wg_c", "src/lib.rt", "--crate-type", "staticlib"]
@@ -68,14 +70,19 @@ def build():
     return ran.stdout if ran.returncode else None
 
 
-def found():
+def is_built() -> bool:
+    """Whether the archive is there and of the sources as they are now."""
+    sources = crates.sum_of(crates.needed("wg_c"))
+    return ARCHIVE.exists() and STAMP.exists() and STAMP.read_text(encoding="utf-8") == building.stamp_of(ARCHIVE, sources)
+
+
+def found() -> tuple[pathlib.Path | None, str | None]:
     """The archive of the sources as they are, built if need be, and None; or None, and why there is none."""
     if kit() is None:
         return None, building.NEEDS_RT.format("build the archive of the C interface")
-    sources = crates.sum_of(crates.needed("wg_c"))
-    if ARCHIVE.exists() and STAMP.exists() and STAMP.read_text(encoding="utf-8") == building.stamp_of(ARCHIVE, sources):
+    if is_built():
         return ARCHIVE, None
-    lacking = [name for name in below() if not library(name).is_dir()]
+    sources, lacking = crates.sum_of(crates.needed("wg_c")), lacks()
     if lacking:
         how = "`rt ci` at the top proves all, and `rt lib` in crates/wg_c what the archive needs"
         return None, f"these are not proved here: {' '.join(lacking)}. {how}"
@@ -84,3 +91,8 @@ def found():
         return None, f"the archive was not built:\n{failed}"
     STAMP.write_text(building.stamp_of(ARCHIVE, sources), encoding="utf-8")
     return ARCHIVE, None
+
+
+def lacks() -> list[str]:
+    """The crates below the exports of which no library is there."""
+    return [name for name in below() if not library(name).is_dir()]
