@@ -25,7 +25,8 @@ class Program:
     """A program that can be asked about scripts. `said` tells what it is, for those who read its answers.
 
     It is the proved one where that is built from the sources as they are, and else, or where that is asked for, the one that is compiled
-    without proofs, of which one line on standard error says so, unless it is told elsewhere. In a release it is the one that came with it."""
+    without proofs, of which one line on standard error says so, unless it is told elsewhere. In a release it is the one that came with
+    that."""
 
     plays = True
 
