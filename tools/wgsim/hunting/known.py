@@ -136,6 +136,11 @@ def has_depth_color(difference: Difference) -> bool:
     return any(re.match("depth|stencil", word) for words in attached for word in words[1:])
 
 
+def has_no_bundle(difference: Difference) -> bool:
+    """Whether a pass executes a list of no bundle before."""
+    return any(call["do"] == "executeBundles" and not call["bundles"] for call in before(difference))
+
+
 def has_visibility(difference: Difference) -> bool:
     """Whether the visibility of an entry has a bit of 32 or more."""
     entries = [entry for call in difference.script if call["do"] == "createBindGroupLayout" for entry in call["entries"]]
@@ -163,6 +168,6 @@ TESTS = {
     for each in (
         is_served, is_texel_buffer, is_lost, is_encoder_refused, names_destroyed, has_canvas, has_pass, follows_map,
         has_depth_color, has_null_targets, has_visibility,
-        is_fewer,
+        has_no_bundle, is_fewer,
     )
 }
