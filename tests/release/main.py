@@ -4,8 +4,8 @@ usage: tests/release/run [--program FILE] [--archive FILE] [--libc FILE]
 
 Every command of the release's README.md is run in its order, as it stands there: take it, install it, build the examples by pkg-config,
 CMake and cargo, take it away. What asks for a tool that is not installed is left out, and that is said. The program and the archive are
-those of these sources, or those that are named. Where there is no archive, or no commit, nothing is tested, and that is said too. Prints a line for each
-finding, and fails if there is one.
+those of these sources, or those that are named. Where there is no archive, or no commit, nothing is tested, and that is said too. Prints a
+line for each finding, and fails if there is one.
 """
 
 import argparse
