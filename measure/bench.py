@@ -36,7 +36,7 @@ MOST_BYTES, MOST_CALLS = 4_194_304, 65_536
 # Below so many calls what the program itself takes is most of its memory.
 FEW = 4_000
 # What a device does under its lock, what of that finds what a submit adds to the trace, and the call that notes what a command does.
-LOCKED, ADDED, NOTE = "wg_core::logged::LoggedCoreLogged::act", "wg_core::plan::add_submit", "wg_cbtrack::track::CbTrack::note"
+LOCKED, ADDED, NOTE = "wg_core::device::Core::step_for_log", "wg_core::plan::add_submit", "wg_cbtrack::track::CbTrack::note"
 COPIES = [10, 1_000, 10_000]
 # How many buffers a command buffer has used, and how often one of them is cleared again.
 USED, AGAIN = [1, 100, 10_000], 100
