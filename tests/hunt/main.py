@@ -9,6 +9,7 @@ there is one. """
 
 import argparse
 import collections
+import functools
 import json
 import os
 import pathlib
@@ -149,7 +150,9 @@ def test_stopped(folder):
     """What was found is kept where a hunt is stopped."""
     engine = f"{TOP / 'tools/python'} {HERE / 'liar.py'} twice"
     words = [TOP / "wgsim", "hunt", "--command", engine, "--of", "workDone", "--scripts", "100000", "--out", folder / "stopped"]
-    run = subprocess.Popen(words, cwd=TOP, stdout=subprocess.PIPE, stderr=subprocess.PIPE)
+    # A shell has what it runs in the background ignore control and C, and all that comes of that would.
+    heard = functools.partial(signal.signal, signal.SIGINT, signal.SIG_DFL)
+    run = subprocess.Popen(words, cwd=TOP, stdout=subprocess.PIPE, stderr=subprocess.PIPE, preexec_fn=heard)
     until = time.monotonic() + LONGEST
     while time.monotonic() < until and not list((folder / "stopped").glob("*/report.md")):
         time.sleep(0.2)
