@@ -50,6 +50,8 @@ impl Tracker {
     pub fn reserve(&mut self) -> Result<(), NoMemory>
         ensures last { self.new.last ≡ self.old.last }
         ensures cells { self.new.cells ≡ self.old.cells }
+        ensures last_gone { self.new.last_gone ≡ self.old.last_gone }
+        ensures cells_gone { self.new.cells_gone ≡ self.old.cells_gone }
         ensures stands { (steps : List Step) → Stands self.old steps → Stands self.new steps }
         ensures ready { (plan : PlanValue) → IsReady self.old plan → IsReady self.new plan }
         ensures spare { self.old.spare ≤ self.new.spare }

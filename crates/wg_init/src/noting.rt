@@ -157,6 +157,7 @@ pub fn note_in(
     requires { AreMade kept.old }
     ensures noted { OnOk result (IsAfter kept.old.items accesses.now kept.new.items) }
     ensures made { AreMade kept.new }
+    ensures gone { kept.new.gone ≡ kept.old.gone }
     ensures unchanged { OnErr result (kept.new.items ≡ kept.old.items) }
 {
     let alloc = kept.allocator();

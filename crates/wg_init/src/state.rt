@@ -90,6 +90,7 @@ impl CellState {
         ensures noted { OnOk result (IsNoted self.old.items step.now self.new.items) }
         ensures keeps { OnOk result ((steps : List Step) →
             KeepsSet self.old.items steps → KeepsSet self.new.items (steps ++ step.now ∷ [])) }
+        ensures gone { self.new.gone ≡ self.old.gone }
         ensures unchanged { OnErr result (self.new.items ≡ self.old.items) }
     {
         note_in(&mut self.kept, step.accesses.as_slice())?;
@@ -149,7 +150,8 @@ impl CellState {
 
     /// An equal state, where no rows were let go.
     pub fn copy(&self) -> Result<CellState, NoMemory>
-        ensures { IfOk result (λ other. other.items ≡ self.now.items) }
+        ensures items { IfOk result (λ other. other.items ≡ self.now.items) }
+        ensures gone { IfOk result (λ other. other.gone ≡ []) }
     {
         let alloc = self.kept.allocator();
         let mut kept = Fading::new(alloc);
