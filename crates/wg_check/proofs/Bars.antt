@@ -4,7 +4,7 @@ use Rattle.std.proofs.lemmas.Bool.{cases_order, lt-ltb, le-ltb, le-leb, lt-leb, 
 use Rattle.wg_rows.specs.Rows.{in_range}
 use Rattle.wg_rows.specs.Runs.{PartRun, BufferPart, LayerParts, QueryPart, Cell, Byte, Texels, Slice, Query, covers_part, part_of, aspect_number}
 use Rattle.wg_check.specs.declared.stories.Access.{Access}
-use Rattle.wg_check.specs.declared.events.Deed.TheVariants.{Fence}
+use Rattle.wg_check.specs.declared.events.CellDeed.TheVariants.{Fence}
 use Rattle.wg_check.specs.Segments.{Key, KeyEvent, lies_in, key_story}
 use Rattle.wg_check.specs.Keys.{key, cell_key, event, bar_events}
 use Rattle.wg_check.proofs.Between.{Between, more, two_left, two, four, key_between}

@@ -3,7 +3,7 @@ use Rattle.std.proofs.Common.{◌≡◌, ℕ, ◌<◌, ◌≤◌, List, [], ◌�
 use Rattle.std.proofs.lemmas.Bool.{cases_lt, cases_order, lt-ltb, le-ltb, le-leb, lt-leb, eq-eqb, ne_eqb}
 use Rattle.wg_rows.specs.Rows.{list_before, in_range}
 use Rattle.wg_rows.specs.Runs.{Cell, Byte, Texels, Slice, Query, Cells, Bytes, Layers, Slices, Queries, covers, aspect_number}
-use Rattle.wg_check.specs.declared.events.Deed.{Deed}
+use Rattle.wg_check.specs.declared.events.CellDeed.{CellDeed}
 use Rattle.wg_check.specs.Segments.{numbers, lies_in}
 use Rattle.wg_check.specs.Keys.{key, cell_key, run_event}
 
@@ -67,7 +67,7 @@ four true false m r = refl
 four false a m r = refl
 
 -- A run covers exactly the cells whose keys lie between its ends.
-pub run_covers : (run : Cells) (c : Cell) (deed : Deed) → lies_in (cell_key c) (run_event run deed) ≡ covers run c
+pub run_covers : (run : Cells) (c : Cell) (deed : CellDeed) → lies_in (cell_key c) (run_event run deed) ≡ covers run c
 unfolding covers
 run_covers (Bytes q lo hi) (Byte o x) deed = key_between o 0 0 0 x q 0 0 0 lo hi ∙ two (q == o) (in_range lo hi x)
 run_covers (Bytes q lo hi) (Query o x) deed = key_between o 1 0 0 x q 0 0 0 lo hi ∙ two_left (q == o) (in_range lo hi x)

@@ -6,7 +6,7 @@ use Rattle.wg_rows.specs.Once.{NoneCovers, OneCovers, AreOnce}
 use Rattle.wg_orders.specs.Steps.{reads, writes}
 use Rattle.wg_orders.specs.Trace.{Item, Bar, StepItem, Free}
 use Rattle.wg_check.specs.declared.stories.Access.{Access}
-use Rattle.wg_check.specs.declared.events.Deed.TheVariants.{Act}
+use Rattle.wg_check.specs.declared.events.CellDeed.TheVariants.{Act}
 use Rattle.wg_check.specs.Clashes.{story_from}
 use Rattle.wg_check.specs.Segments.{Key, KeyEvent, key_story, lies_in}
 use Rattle.wg_check.specs.Keys.{cell_key, run_event, row_events, key_events}

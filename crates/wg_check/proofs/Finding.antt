@@ -4,11 +4,11 @@ use Rattle.std.specs.Option.{option_map}
 use Rattle.std.proofs.lemmas.Bool.{eq-eqb, ne_eqb}
 use Rattle.wg_check.specs.declared.stories.Access.{Access}
 use Rattle.wg_check.specs.declared.stories.Past.{Past}
-use Rattle.wg_check.specs.declared.ends.Event.{Event}
+use Rattle.wg_check.specs.declared.ends.SegmentEvent.{SegmentEvent}
 use Rattle.wg_check.specs.declared.segments.Spotted.{Spotted}
 use Rattle.wg_check.specs.Stories.{Meeting, next_writer, after, writer_for, at_end, or_on, clash_from, is_step, writer_met}
 use Rattle.wg_check.specs.Segments.{story_at, Rises, earlier, at_segment, better, clash_at, clash_among}
-use Rattle.wg_check.specs.Digests.{Digest, Entry, Run, Found, told, least_reader, found_here, first_found, found_among, with_writer}
+use Rattle.wg_check.specs.Digests.{Digest, SegmentEntry, Run, FoundClash, told, least_reader, found_here, first_found, found_among, with_writer}
 use Rattle.wg_check.proofs.Halves.{digest_is}
 use Rattle.wg_check.proofs.Reading.{reader_right}
 use Rattle.wg_check.proofs.Laws.{AmongIs, among_is}
@@ -69,7 +69,7 @@ met_writer past n (a ∷ story) m rises e = by_reads a.reads e (met_writer (afte
 
 -- The least reader.
 
-abbrev seen : Option Spotted → Option Found
+abbrev seen : Option Spotted → Option FoundClash
 seen None = None
 seen (Some s) = Some (record { reader = s.reader; segment = s.segment })
 
@@ -86,13 +86,13 @@ seen_better (Some a) (Some b) = by_first (earlier b.reader a.reader)
     by_first true = refl
     by_first false = refl
 
-seen_among : (events : List Event) (lo n : ℕ) → ((m : ℕ) → Rises 0 (story_at m 0 events)) → found_among (map Run events) lo n ≡ seen (clash_among events lo n)
+seen_among : (events : List SegmentEvent) (lo n : ℕ) → ((m : ℕ) → Rises 0 (story_at m 0 events)) → found_among (map Run events) lo n ≡ seen (clash_among events lo n)
 seen_among events lo zero rises = refl
 seen_among events lo (suc n) rises =
     ap₂ first_found (ap (λ (d : Digest). found_here lo (least_reader d)) (digest_is lo (map Run events)) ∙ (ap (found_here lo) (reader_right lo events (rises lo)) ∙ seen_here lo (clash_from None (story_at lo 0 events)))) (seen_among events (suc lo) n rises)
     ∙ seen_better (clash_at events lo) (clash_among events (suc lo) n)
 
-pub clash_told : (events : List Event) (n : ℕ) → ((m : ℕ) → Rises 0 (story_at m 0 events)) → told events (found_among (map Run events) 0 n) ≡ clash_among events 0 n
+pub clash_told : (events : List SegmentEvent) (n : ℕ) → ((m : ℕ) → Rises 0 (story_at m 0 events)) → told events (found_among (map Run events) 0 n) ≡ clash_among events 0 n
 clash_told events n rises = ap (told events) (seen_among events 0 n rises) ∙ by_found (clash_among events 0 n) (among_is events 0 n)
   where
     by_found : (found : Option Spotted) → AmongIs events 0 n found → told events (seen found) ≡ found
@@ -107,7 +107,7 @@ clash_told events n rises = ap (told events) (seen_among events 0 n rises) ∙ b
             let writer : m.writer ≡ s.writer = ap (λ (s : Spotted). s.writer) same in
             ap (with_writer (record { reader = s.reader; segment = s.segment })) (ap (λ (r : Option ℕ). writer_met None r (story_at s.segment 0 events)) (sym reader) ∙ (met_writer None 0 (story_at s.segment 0 events) m (rises s.segment) e ∙ ap Some writer))
 
-pub clash_found : (events : List Event) (entries : List Entry) (n : ℕ) (found : Option Found) (clash : Option Spotted) → ((m : ℕ) → Rises 0 (story_at m 0 events)) → entries ≡ map Run events → found ≡ found_among entries 0 (n - 0) → clash ≡ told events found → clash ≡ clash_among events 0 n
+pub clash_found : (events : List SegmentEvent) (entries : List SegmentEntry) (n : ℕ) (found : Option FoundClash) (clash : Option Spotted) → ((m : ℕ) → Rises 0 (story_at m 0 events)) → entries ≡ map Run events → found ≡ found_among entries 0 (n - 0) → clash ≡ told events found → clash ≡ clash_among events 0 n
 clash_found events entries n found clash rises same is tells =
     let all : n - 0 ≡ n = omega arith in
-    tells ∙ (ap (told events) (is ∙ (ap₂ (λ (es : List Entry) (m : ℕ). found_among es 0 m) same all)) ∙ clash_told events n rises)
+    tells ∙ (ap (told events) (is ∙ (ap₂ (λ (es : List SegmentEntry) (m : ℕ). found_among es 0 m) same all)) ∙ clash_told events n rises)

@@ -2,9 +2,9 @@
 use Rattle.std.proofs.Common.{◌≡◌, ℕ, zero, suc, ◌+◌, ◌-◌, ◌<◌, ◌≤◌, List, [], ◌∷◌, Bool, true, false, nat_lt, nat_le, Option, Some, None, refl, ap, ap₂, sym, ◌∙◌, ◌⊎◌, inl, inr, arith, if◌then◌else◌, true≢false}
 use Rattle.std.proofs.lemmas.Bool.{cases_Bool, ltb-true, ltb-false, lt-ltb, le-ltb, le-leb, and_parts, and_from, leb-true}
 use Rattle.wg_rows.specs.Rows.{in_range}
-use Rattle.wg_check.specs.declared.ends.Event.{Event}
+use Rattle.wg_check.specs.declared.ends.SegmentEvent.{SegmentEvent}
 use Rattle.wg_check.specs.Segments.{touches, earlier}
-use Rattle.wg_check.specs.Digests.{Digest, Entry, Run, Known, Found, nothing, deed_digest, joined, least_reader, digest_at, digest_onto, spans, narrowed, found_here, found_at, first_found, found_among}
+use Rattle.wg_check.specs.Digests.{Digest, SegmentEntry, Run, Known, FoundClash, nothing, deed_digest, joined, least_reader, digest_at, digest_onto, spans, narrowed, found_here, found_at, first_found, found_among}
 use Rattle.wg_check.proofs.Joining.{joined_assoc, joined_left, joined_right}
 
 earlier_trans : (a b c : Option ℕ) → earlier a b ≡ true → earlier b c ≡ true → earlier a c ≡ true
@@ -19,7 +19,7 @@ earlier_not a None (Some z) e h = absurd (true≢false h)
 earlier_not None (Some y) (Some z) e h = absurd (true≢false e)
 earlier_not (Some x) (Some y) (Some z) e h = let x_to_y : x ≤ y = ltb-false y x e in let y_to_z : y ≤ z = ltb-false z y h in le-ltb z x (omega arith)
 
-first_assoc : (a b c : Option Found) → first_found (first_found a b) c ≡ first_found a (first_found b c)
+first_assoc : (a b c : Option FoundClash) → first_found (first_found a b) c ≡ first_found a (first_found b c)
 first_assoc None b c = refl
 first_assoc (Some a) None c = refl
 first_assoc (Some a) (Some b) None = by_first (earlier b.reader a.reader)
@@ -29,7 +29,7 @@ first_assoc (Some a) (Some b) None = by_first (earlier b.reader a.reader)
     by_first false = refl
 first_assoc (Some a) (Some b) (Some c) = by_both (earlier b.reader a.reader) (earlier c.reader b.reader) refl refl
   where
-    pick : (t : Bool) (x y : Found) → earlier x.reader y.reader ≡ t → first_found (Some y) (Some x) ≡ (if t then Some x else Some y)
+    pick : (t : Bool) (x y : FoundClash) → earlier x.reader y.reader ≡ t → first_found (Some y) (Some x) ≡ (if t then Some x else Some y)
     pick t x y e = ap (λ (t : Bool). if t then Some x else Some y) e
 
     by_both : (t u : Bool) → earlier b.reader a.reader ≡ t → earlier c.reader b.reader ≡ u → first_found (if t then Some b else Some a) (Some c) ≡ first_found (Some a) (if u then Some c else Some b)
@@ -38,7 +38,7 @@ first_assoc (Some a) (Some b) (Some c) = by_both (earlier b.reader a.reader) (ea
     by_both false true e h = refl
     by_both false false e h = pick false c a (earlier_not a.reader b.reader c.reader e h) ∙ sym (pick false b a e)
 
-among_split : (entries : List Entry) (lo m n : ℕ) → found_among entries lo (m + n) ≡ first_found (found_among entries lo m) (found_among entries (lo + m) n)
+among_split : (entries : List SegmentEntry) (lo m n : ℕ) → found_among entries lo (m + n) ≡ first_found (found_among entries lo m) (found_among entries (lo + m) n)
 among_split entries lo zero n = ap₂ (found_among entries) (omega arith) (omega arith)
 among_split entries lo (suc m) n =
     let more : suc m + n ≡ suc (m + n) = omega arith in
@@ -48,7 +48,7 @@ among_split entries lo (suc m) n =
     ∙ sym (first_assoc (found_at entries lo) (found_among entries (suc lo) m) (found_among entries (lo + suc m) n)))
 
 -- What is on a segment touches what the segment lies in,
-on_touches : (v : Event) (lo hi n : ℕ) → lo ≤ n → n < hi → touches lo hi v ≡ false → in_range v.lo v.hi n ≡ false
+on_touches : (v : SegmentEvent) (lo hi n : ℕ) → lo ≤ n → n < hi → touches lo hi v ≡ false → in_range v.lo v.hi n ≡ false
 on_touches v lo hi n a b e = by_cover (cases_Bool (in_range v.lo v.hi n))
   where
     by_cover : (in_range v.lo v.hi n ≡ true) ⊎ (in_range v.lo v.hi n ≡ false) → in_range v.lo v.hi n ≡ false
@@ -62,14 +62,14 @@ on_touches v lo hi n a b e = by_cover (cases_Bool (in_range v.lo v.hi n))
         r = ltb-true n v.hi (and_parts (nat_le v.lo n) (nat_lt n v.hi) covers).1
 
 -- and what spans these is on each.
-spans_on : (v : Event) (lo hi n : ℕ) → lo ≤ n → n < hi → spans lo hi v ≡ true → in_range v.lo v.hi n ≡ true
+spans_on : (v : SegmentEvent) (lo hi n : ℕ) → lo ≤ n → n < hi → spans lo hi v ≡ true → in_range v.lo v.hi n ≡ true
 spans_on v lo hi n a b e =
     let ends : (nat_le v.lo lo ≡ true) × (nat_le hi v.hi ≡ true) = and_parts (nat_le v.lo lo) (nat_le hi v.hi) e in
     let l : v.lo ≤ lo = leb-true v.lo lo ends.0 in
     let r : hi ≤ v.hi = leb-true hi v.hi ends.1 in
     and_from (nat_le v.lo n) (nat_lt n v.hi) (le-leb v.lo n (omega arith)) (lt-ltb n v.hi (omega arith))
 
-digest_narrowed : (lo hi n : ℕ) (digest : Digest) (entries : List Entry) → lo ≤ n → n < hi → digest_at n (narrowed lo hi digest entries) ≡ joined digest (digest_at n entries)
+digest_narrowed : (lo hi n : ℕ) (digest : Digest) (entries : List SegmentEntry) → lo ≤ n → n < hi → digest_at n (narrowed lo hi digest entries) ≡ joined digest (digest_at n entries)
 digest_narrowed lo hi n digest [] a b = refl
 digest_narrowed lo hi n digest (Known other ∷ entries) a b = digest_narrowed lo hi n (joined digest other) entries a b ∙ joined_assoc digest other (digest_at n entries)
 digest_narrowed lo hi n digest (Run v ∷ entries) a b = by_touch (λ d. digest_narrowed lo hi n d entries a b) (touches lo hi v) refl (spans lo hi v) refl
@@ -87,7 +87,7 @@ digest_narrowed lo hi n digest (Run v ∷ entries) a b = by_touch (λ d. digest_
         let alone : digest_at n (narrowed lo hi nothing entries) ≡ digest_at n entries = rest nothing ∙ joined_left (digest_at n entries) in
         ap (λ (d : Digest). joined digest (if in_range v.lo v.hi n then joined (deed_digest v.deed) d else d)) alone
 
-digest_behind : (n : ℕ) (digest : Digest) (entries : List Entry) → digest_onto n digest entries ≡ joined digest (digest_at n entries)
+digest_behind : (n : ℕ) (digest : Digest) (entries : List SegmentEntry) → digest_onto n digest entries ≡ joined digest (digest_at n entries)
 digest_behind n digest [] = sym (joined_right digest)
 digest_behind n digest (Known other ∷ entries) = digest_behind n (joined digest other) entries ∙ joined_assoc digest other (digest_at n entries)
 digest_behind n digest (Run v ∷ entries) = by_range (in_range v.lo v.hi n) (digest_behind n (joined digest (deed_digest v.deed)) entries) (digest_behind n digest entries)
@@ -96,28 +96,28 @@ digest_behind n digest (Run v ∷ entries) = by_range (in_range v.lo v.hi n) (di
     by_range true more same = more ∙ joined_assoc digest (deed_digest v.deed) (digest_at n entries)
     by_range false more same = same
 
-pub digest_is : (n : ℕ) (entries : List Entry) → digest_onto n nothing entries ≡ digest_at n entries
+pub digest_is : (n : ℕ) (entries : List SegmentEntry) → digest_onto n nothing entries ≡ digest_at n entries
 digest_is n entries = digest_behind n nothing entries ∙ joined_left (digest_at n entries)
 
-among_narrowed : (entries : List Entry) (from to lo n : ℕ) → from ≤ lo → lo + n ≤ to → found_among (narrowed from to nothing entries) lo n ≡ found_among entries lo n
+among_narrowed : (entries : List SegmentEntry) (from to lo n : ℕ) → from ≤ lo → lo + n ≤ to → found_among (narrowed from to nothing entries) lo n ≡ found_among entries lo n
 among_narrowed entries from to lo zero a b = refl
 among_narrowed entries from to lo (suc n) a b = ap₂ first_found (at_lo (digest_narrowed from to lo nothing entries a (omega arith) ∙ joined_left (digest_at lo entries))) (among_narrowed entries from to (suc lo) n (omega arith) (omega arith))
   where
     at_lo : digest_at lo (narrowed from to nothing entries) ≡ digest_at lo entries → found_at (narrowed from to nothing entries) lo ≡ found_at entries lo
     at_lo same = ap (λ (d : Digest). found_here lo (least_reader d)) (digest_is lo (narrowed from to nothing entries) ∙ (same ∙ sym (digest_is lo entries)))
 
-pub no_segments : (entries : List Entry) (lo hi : ℕ) → lo ≡ hi → found_among entries lo (hi - lo) ≡ None
+pub no_segments : (entries : List SegmentEntry) (lo hi : ℕ) → lo ≡ hi → found_among entries lo (hi - lo) ≡ None
 no_segments entries lo hi same = let gap : hi - lo ≡ 0 = omega arith in ap (found_among entries lo) gap
 
-first_none : (a : Option Found) → first_found a None ≡ a
+first_none : (a : Option FoundClash) → first_found a None ≡ a
 first_none None = refl
 first_none (Some a) = refl
 
-pub one_segment : (entries : List Entry) (lo hi : ℕ) → hi - lo ≡ 1 → found_among entries lo (hi - lo) ≡ found_at entries lo
+pub one_segment : (entries : List SegmentEntry) (lo hi : ℕ) → hi - lo ≡ 1 → found_among entries lo (hi - lo) ≡ found_at entries lo
 one_segment entries lo hi one = ap (found_among entries lo) one ∙ first_none (found_at entries lo)
 
 -- The whole from its halves.
-pub halves : (entries : List Entry) (lo middle hi : ℕ) → lo ≤ middle → middle ≤ hi → found_among entries lo (hi - lo) ≡ first_found (found_among (narrowed lo middle nothing entries) lo (middle - lo)) (found_among (narrowed middle hi nothing entries) middle (hi - middle))
+pub halves : (entries : List SegmentEntry) (lo middle hi : ℕ) → lo ≤ middle → middle ≤ hi → found_among entries lo (hi - lo) ≡ first_found (found_among (narrowed lo middle nothing entries) lo (middle - lo)) (found_among (narrowed middle hi nothing entries) middle (hi - middle))
 halves entries lo middle hi a b =
     let whole : hi - lo ≡ (middle - lo) + (hi - middle) = omega arith in
     let at : lo + (middle - lo) ≡ middle = omega arith in

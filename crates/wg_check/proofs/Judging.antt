@@ -10,7 +10,7 @@ use Rattle.wg_orders.specs.Orders.{Differs, IsOrder, Keeps, SameAt}
 use Rattle.wg_orders.proofs.Check.{none_differs}
 use Rattle.wg_orders.proofs.Moved.{some_differs}
 use Rattle.wg_check.specs.declared.stories.Access.{Access}
-use Rattle.wg_check.specs.declared.ends.Event.{Event}
+use Rattle.wg_check.specs.declared.ends.SegmentEvent.{SegmentEvent}
 use Rattle.wg_check.specs.declared.segments.Spotted.{Spotted}
 use Rattle.wg_check.specs.Stories.{clash_from}
 use Rattle.wg_check.specs.Segments.{Key, numbers, before, rank, ranked, story_at, at_segment, clash_among, Among, EndsIn}
@@ -82,7 +82,7 @@ at_most s ends c d reader j among ranks (inr (same, inr at)) = inr (same, by_cel
 pub verdict_told : (trace : List Item) (ends : List Key) → AreOnce trace → Ascending ends → EndsIn ends (key_events 0 trace) → IsVerdict trace (clash_of trace ends (clash_among (map (ranked ends) (key_events 0 trace)) 0 (suc (length ends))))
 verdict_told trace ends once up within = by_found (clash_among events 0 (suc (length ends))) (among_is events 0 (suc (length ends))) (verdict_is trace cell_key (key_events 0 trace) ends (record { stories = λ c. stories c 0 0 trace once; within = within }))
   where
-    events : List Event
+    events : List SegmentEvent
     events = map (ranked ends) (key_events 0 trace)
 
     by_found : (found : Option Spotted) → AmongIs events 0 (suc (length ends)) found → SegmentsTell trace cell_key ends found → IsVerdict trace (clash_of trace ends found)
@@ -113,8 +113,8 @@ verdict_told trace ends once up within = by_found (clash_among events 0 (suc (le
                 clash : clash_of trace ends (Some s) ≡ Some (record { reader = s.reader; writer = s.writer; cell = cell_run has.cell })
                 clash = ap (λ (o : Option Key). with_cell s (option_and_then (λ k. cell_from 0 s.writer k trace) o)) end ∙ ap (with_cell s) (ap (λ (n : ℕ). cell_from 0 n (cell_key has.cell) trace) from_zero ∙ cell_found has.cell trace 0 s.writer differs.writes)
 
-pub verdict_from : (items : List Item) (ends : List Key) (events : List Event) (found : Option Spotted) (clash : Option Clash) (count : ℕ) → AreOnce items → Ascending ends → EndsIn ends (key_events 0 items) → events ≡ map (ranked ends) (key_events 0 items) → count ≡ suc (length ends) → found ≡ clash_among events 0 count → clash ≡ clash_of items ends found → IsVerdict items clash
-verdict_from items ends events found clash count once up within are all is tells = subst (IsVerdict items) (sym (tells ∙ ap (clash_of items ends) (is ∙ ap₂ (λ (events : List Event) (n : ℕ). clash_among events 0 n) are all))) (verdict_told items ends once up within)
+pub verdict_from : (items : List Item) (ends : List Key) (events : List SegmentEvent) (found : Option Spotted) (clash : Option Clash) (count : ℕ) → AreOnce items → Ascending ends → EndsIn ends (key_events 0 items) → events ≡ map (ranked ends) (key_events 0 items) → count ≡ suc (length ends) → found ≡ clash_among events 0 count → clash ≡ clash_of items ends found → IsVerdict items clash
+verdict_from items ends events found clash count once up within are all is tells = subst (IsVerdict items) (sym (tells ∙ ap (clash_of items ends) (is ∙ ap₂ (λ (events : List SegmentEvent) (n : ℕ). clash_among events 0 n) are all))) (verdict_told items ends once up within)
 
 pub orders_told : (trace : List Item) (found : Option Clash) → IsVerdict trace found → TellsOrders trace found
 orders_told trace None none = λ c order is keeps. none_differs trace c order (λ reader j d. none reader c j d) is keeps

@@ -5,7 +5,7 @@ use Rattle.wg_rows.specs.Runs.{Cell}
 use Rattle.wg_orders.specs.Trace.{Item}
 use Rattle.wg_orders.specs.Orders.{Differs}
 use Rattle.wg_check.specs.Stories.{Meeting}
-use Rattle.wg_check.specs.declared.ends.Event.{Event}
+use Rattle.wg_check.specs.declared.ends.SegmentEvent.{SegmentEvent}
 use Rattle.wg_check.specs.declared.segments.Spotted.{Spotted}
 use Rattle.wg_check.specs.Stories.{clash_from}
 use Rattle.wg_check.specs.Doings.{NotAfter, FromStep, IsClash}
@@ -21,13 +21,13 @@ use Rattle.wg_check.proofs.Telling.{cell_clash}
 abbrev pub Leads : Spotted → Option ℕ → ℕ → Type 0
 Leads s reader n = (earlier s.reader reader ≡ true) ⊎ ((s.reader ≡ reader) × (s.segment ≤ n))
 
-pub record LeastOf (events : List Event) (lo n : ℕ) (s : Spotted) : Type 0 where
+pub record LeastOf (events : List SegmentEvent) (lo n : ℕ) (s : Spotted) : Type 0 where
   pub lower : lo ≤ s.segment
   pub upper : s.segment < lo + n
   pub is : clash_at events s.segment ≡ Some s
   pub leads : (m : ℕ) (t : Spotted) → lo ≤ m → m < lo + n → clash_at events m ≡ Some t → Leads s t.reader m
 
-abbrev pub AmongIs : List Event → ℕ → ℕ → Option Spotted → Type 0
+abbrev pub AmongIs : List SegmentEvent → ℕ → ℕ → Option Spotted → Type 0
 AmongIs events lo n None = (m : ℕ) → lo ≤ m → m < lo + n → clash_at events m ≡ None
 AmongIs events lo n (Some s) = LeastOf events lo n s
 
@@ -52,7 +52,7 @@ at_is : (n : ℕ) (o : Option Meeting) (t : Spotted) → at_segment n o ≡ Some
 at_is n None t e = absurd (cc)
 at_is n (Some m) t e = let h : record { reader = m.reader; segment = n; writer = m.writer } ≡ t = cc in ap (λ (s : Spotted). s.segment) (sym h)
 
-pub among_is : (events : List Event) (lo n : ℕ) → AmongIs events lo n (clash_among events lo n)
+pub among_is : (events : List SegmentEvent) (lo n : ℕ) → AmongIs events lo n (clash_among events lo n)
 among_is events lo zero = λ m l u. absurd (omega arith)
 among_is events lo (suc n) = by_both (clash_at events lo) (clash_among events (suc lo) n) refl (among_is events (suc lo) n)
   where

@@ -9,8 +9,8 @@ use Rattle.wg_rows.specs.Once.{AreOnce}
 use Rattle.wg_orders.specs.Steps.{writes}
 use Rattle.wg_orders.specs.Trace.{Item, Bar, StepItem, Free, steps_of, writes_at}
 use Rattle.wg_check.specs.declared.stories.Access.{Access}
-use Rattle.wg_check.specs.declared.events.Deed.{Deed}
-use Rattle.wg_check.specs.declared.events.Deed.TheVariants.{Fence, Act}
+use Rattle.wg_check.specs.declared.events.CellDeed.{CellDeed}
+use Rattle.wg_check.specs.declared.events.CellDeed.TheVariants.{Fence, Act}
 use Rattle.wg_check.specs.Doings.{Doings, IsStory}
 use Rattle.wg_check.specs.Clashes.{doings, story}
 use Rattle.wg_check.specs.Segments.{Key, KeyEvent, before, then_on, story_at, key_story, lies_in, rank, ranked, Rises, Among, EndsIn}
@@ -37,7 +37,7 @@ record InLine (k : Key) (s a m : ℕ) : Type 0 where
   aspect : a ≡ k.aspect
   mip : m ≡ k.mip
 
-in_line : (k : Key) (o s a m lo hi : ℕ) (deed : Deed) → lies_in k (event (key o s a m lo) (key o s a m hi) deed) ≡ true → InLine k s a m
+in_line : (k : Key) (o s a m lo hi : ℕ) (deed : CellDeed) → lies_in k (event (key o s a m lo) (key o s a m hi) deed) ≡ true → InLine k s a m
 in_line k o s a m lo hi deed e =
     let tests : ((o == k.object) && ((s == k.sort) && ((a == k.aspect) && ((m == k.mip) && in_range lo hi k.at)))) ≡ true = sym (key_between k.object k.sort k.aspect k.mip k.at o s a m lo hi) ∙ e in
     let first : ((o == k.object) ≡ true) × (((s == k.sort) && ((a == k.aspect) && ((m == k.mip) && in_range lo hi k.at))) ≡ true) = and_parts (o == k.object) ((s == k.sort) && ((a == k.aspect) && ((m == k.mip) && in_range lo hi k.at))) tests in
@@ -46,7 +46,7 @@ in_line k o s a m lo hi deed e =
     let fourth : ((m == k.mip) ≡ true) × (in_range lo hi k.at ≡ true) = and_parts (m == k.mip) (in_range lo hi k.at) third.1 in
     record { sort = eqb-true s k.sort second.0; aspect = eqb-true a k.aspect third.0; mip = eqb-true m k.mip fourth.0 }
 
-run_cell : (k : Key) (run : Cells) (deed : Deed) → lies_in k (run_event run deed) ≡ true → HasCell k
+run_cell : (k : Key) (run : Cells) (deed : CellDeed) → lies_in k (run_event run deed) ≡ true → HasCell k
 run_cell k (Bytes o lo hi) deed e = let l : InLine k 0 0 0 = in_line k o 0 0 0 lo hi deed e in record { cell = Byte k.object k.at; stands = keyed k 0 0 0 l.sort l.aspect l.mip }
 run_cell k (Queries o lo hi) deed e = let l : InLine k 1 0 0 = in_line k o 1 0 0 lo hi deed e in record { cell = Query k.object k.at; stands = keyed k 1 0 0 l.sort l.aspect l.mip }
 run_cell k (Layers o aspect mip lo hi) deed e = let l : InLine k 2 (aspect_number aspect) mip = in_line k o 2 (aspect_number aspect) mip lo hi deed e in record { cell = Texels k.object aspect mip k.at; stands = keyed k 2 (aspect_number aspect) mip l.sort l.aspect l.mip }
@@ -199,7 +199,7 @@ cell_in_run (Queries o lo hi) k = in_at k (λ x. Queries o x (x + 1)) o 1 0 0 lo
 cell_in_run (Layers o aspect mip lo hi) k = in_at k (λ x. Layers o aspect mip x (x + 1)) o 2 (aspect_number aspect) mip lo hi
 cell_in_run (Slices o mip lo hi) k = in_at k (λ x. Slices o mip x (x + 1)) o 3 0 mip lo hi
 
-object_eq : (k : Key) (o s a m lo hi : ℕ) (deed : Deed) → lies_in k (event (key o s a m lo) (key o s a m hi) deed) ≡ true → o ≡ k.object
+object_eq : (k : Key) (o s a m lo hi : ℕ) (deed : CellDeed) → lies_in k (event (key o s a m lo) (key o s a m hi) deed) ≡ true → o ≡ k.object
 object_eq k o s a m lo hi deed e = eqb-true o k.object (and_parts (o == k.object) ((s == k.sort) && ((a == k.aspect) && ((m == k.mip) && in_range lo hi k.at))) (sym (key_between k.object k.sort k.aspect k.mip k.at o s a m lo hi) ∙ e)).0
 
 made_is : (run : Cells) (c : Cell) → lies_in (cell_key c) (run_event run Fence) ≡ true → made_at run (cell_key c) ≡ cell_run c

@@ -5,9 +5,9 @@ use Rattle.std.proofs.lemmas.Bool.{eq-eqb, ne_eqb}
 use Rattle.wg_rows.specs.Rows.{in_range}
 use Rattle.wg_check.specs.declared.stories.Access.{Access}
 use Rattle.wg_check.specs.declared.stories.Past.{Past}
-use Rattle.wg_check.specs.declared.events.Deed.{Deed}
-use Rattle.wg_check.specs.declared.events.Deed.TheVariants.{Fence, Act}
-use Rattle.wg_check.specs.declared.ends.Event.{Event}
+use Rattle.wg_check.specs.declared.events.CellDeed.{CellDeed}
+use Rattle.wg_check.specs.declared.events.CellDeed.TheVariants.{Fence, Act}
+use Rattle.wg_check.specs.declared.ends.SegmentEvent.{SegmentEvent}
 use Rattle.wg_check.specs.Stories.{Meeting, next_writer, first_of, after, later, writer_for, at_end, or_on, clash_from}
 use Rattle.wg_check.specs.Segments.{then_on, story_at, Rises}
 use Rattle.wg_check.specs.Digests.{Stretch, Course, Digest, Open, Parted, Run, no_access, one_access, stretched, no_stretch, one_stretch, met_in, left_by, followed, nothing, deed_digest, joined, end_met, or_else, least_reader, digest_at}
@@ -15,19 +15,19 @@ use Rattle.wg_check.proofs.Joining.{any_false, stretched_assoc, stretched_left, 
 
 -- the deeds on a segment
 
-abbrev pub deeds_at : ℕ → List Event → List Deed
+abbrev pub deeds_at : ℕ → List SegmentEvent → List CellDeed
 deeds_at n [] = []
 deeds_at n (v ∷ events) = if in_range v.lo v.hi n then v.deed ∷ deeds_at n events else deeds_at n events
 
-abbrev pub digest_of : List Deed → Digest
+abbrev pub digest_of : List CellDeed → Digest
 digest_of [] = nothing
 digest_of (d ∷ deeds) = joined (deed_digest d) (digest_of deeds)
 
-abbrev pub story_of : ℕ → List Deed → List Access
+abbrev pub story_of : ℕ → List CellDeed → List Access
 story_of e [] = []
 story_of e (d ∷ deeds) = then_on d e (story_of (suc e) deeds) (story_of e deeds)
 
-digest_deeds : (n : ℕ) (events : List Event) → digest_at n (map Run events) ≡ digest_of (deeds_at n events)
+digest_deeds : (n : ℕ) (events : List SegmentEvent) → digest_at n (map Run events) ≡ digest_of (deeds_at n events)
 digest_deeds n [] = refl
 digest_deeds n (v ∷ events) = by_range (in_range v.lo v.hi n) (digest_deeds n events)
   where
@@ -35,7 +35,7 @@ digest_deeds n (v ∷ events) = by_range (in_range v.lo v.hi n) (digest_deeds n 
     by_range true same = ap (joined (deed_digest v.deed)) same
     by_range false same = same
 
-story_deeds : (n e : ℕ) (events : List Event) → story_at n e events ≡ story_of e (deeds_at n events)
+story_deeds : (n e : ℕ) (events : List SegmentEvent) → story_at n e events ≡ story_of e (deeds_at n events)
 story_deeds n e [] = refl
 story_deeds n e (v ∷ events) = by_range (in_range v.lo v.hi n) (story_deeds n (suc e) events) (story_deeds n e events)
   where
@@ -51,7 +51,7 @@ closed d s = met_in (one_stretch s) d
 abbrev leaves : Bool → Stretch → Bool
 leaves d s = left_by (one_stretch s) d
 
-abbrev walk : Bool → Stretch → List Deed → Option (Option ℕ)
+abbrev walk : Bool → Stretch → List CellDeed → Option (Option ℕ)
 walk d s [] = or_else (closed d s) (end_met (leaves d s))
 walk d s (Fence ∷ deeds) = or_else (closed d s) (walk (leaves d s) no_access deeds)
 walk d s (Act place reads writes ∷ deeds) = walk d (stretched s (one_access place reads writes)) deeds
@@ -90,7 +90,7 @@ read_fence d s (Parted h c t) =
         ap₂ (λ (o : Option ℕ) (l : Bool). or_else o (or_else (closed l t) (end_met (leaves l t)))) (met_followed first c b) (left_followed first c b)
         ∙ else_assoc (met_in first b) (met_in c (left_by first b)) (or_else (closed (left_by c (left_by first b)) t) (end_met (leaves (left_by c (left_by first b)) t)))
 
-read_walk : (d : Bool) (s : Stretch) (deeds : List Deed) → read d s (digest_of deeds) ≡ walk d s deeds
+read_walk : (d : Bool) (s : Stretch) (deeds : List CellDeed) → read d s (digest_of deeds) ≡ walk d s deeds
 read_walk d s [] = ap (λ (s : Stretch). or_else (closed d s) (end_met (leaves d s))) (stretched_right s)
 read_walk d s (Fence ∷ deeds) = read_fence d s (digest_of deeds) ∙ ap (or_else (closed d s)) (read_walk (leaves d s) no_access deeds)
 read_walk d s (Act place reads writes ∷ deeds) = read_act d s (one_access place reads writes) (digest_of deeds) ∙ read_walk d (stretched s (one_access place reads writes)) deeds
@@ -119,7 +119,7 @@ data Kept (d : Bool) (s : Stretch) (e m : ℕ) : Option Past → Type 0 where
   Before : (p : Past) → s.writes ≡ false → s.many ≡ false → p.epoch < e → not (p.first == p.last) ≡ d → p.first ≤ p.last → p.last < m → Kept d s e m (Some p)
   Within : (p : Past) → s.writes ≡ true → p.epoch ≡ e → not (p.first == p.last) ≡ s.many → p.first ≤ p.last → p.last < m → Kept d s e m (Some p)
 
-none_ahead : (e f : ℕ) (deeds : List Deed) → e < f → ahead e (next_writer (story_of f deeds)) ≡ false
+none_ahead : (e f : ℕ) (deeds : List CellDeed) → e < f → ahead e (next_writer (story_of f deeds)) ≡ false
 none_ahead e f [] l = refl
 none_ahead e f (Fence ∷ deeds) l = none_ahead e (suc f) deeds (omega arith)
 none_ahead e f (Act place reads true ∷ deeds) l = ne_eqb f e (λ same. omega (arith, same))
@@ -255,7 +255,7 @@ nothing_met : (b : Bool) (rest : Option (Option ℕ)) → or_else (if b then Non
 nothing_met true rest = refl
 nothing_met false rest = refl
 
-walked : (d : Bool) (s : Stretch) (e m : ℕ) (past : Option Past) (deeds : List Deed) → Kept d s e m past → Rises m (story_of e deeds)
+walked : (d : Bool) (s : Stretch) (e m : ℕ) (past : Option Past) (deeds : List CellDeed) → Kept d s e m past → Rises m (story_of e deeds)
     → walk d s deeds ≡ or_else (if d || ahead e (next_writer (story_of e deeds)) then s.first else s.met) (reader (clash_from past (story_of e deeds)))
 walked d s e m past [] kept rises = ap₂ (λ (b : Bool) (rest : Option (Option ℕ)). or_else (if b then s.first else s.met) rest) (sym (any_step d)) (at_last d s e m past kept)
 walked d s e m past (Fence ∷ deeds) kept rises =
@@ -287,7 +287,7 @@ walked d s e m past (Act place reads writes ∷ deeds) kept rises =
     met = some_and reads (writer_for past a (next_writer story)) ∙ ap (λ (b : Bool). reads && b) (met_at d s e m past a (next_writer story) refl kept)
 
 -- What the deeds on a segment tell is the reader of its least clash.
-pub reader_right : (n : ℕ) (events : List Event) → Rises 0 (story_at n 0 events) → least_reader (digest_at n (map Run events)) ≡ option_map (λ (m : Meeting). m.reader) (clash_from None (story_at n 0 events))
+pub reader_right : (n : ℕ) (events : List SegmentEvent) → Rises 0 (story_at n 0 events) → least_reader (digest_at n (map Run events)) ≡ option_map (λ (m : Meeting). m.reader) (clash_from None (story_at n 0 events))
 reader_right n events rises =
     ap least_reader (digest_deeds n events)
     ∙ (least_read (digest_of (deeds_at n events))

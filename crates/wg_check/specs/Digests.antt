@@ -2,16 +2,16 @@
 use Rattle.std.specs.Prelude.{ℕ, zero, suc, Bool, true, false, ◌||◌, ◌&&◌, nat_le, List, [], ◌∷◌, Option, Some, None, if◌then◌else◌}
 use Rattle.std.specs.Option.{option_or}
 use Rattle.wg_rows.specs.Rows.{in_range}
-use Rattle.wg_check.specs.declared.events.Deed.{Deed}
-use Rattle.wg_check.specs.declared.events.Deed.TheVariants.{Fence, Act}
-use Rattle.wg_check.specs.declared.ends.Event.{Event}
+use Rattle.wg_check.specs.declared.events.CellDeed.{CellDeed}
+use Rattle.wg_check.specs.declared.events.CellDeed.TheVariants.{Fence, Act}
+use Rattle.wg_check.specs.declared.ends.SegmentEvent.{SegmentEvent}
 pub use Rattle.wg_check.specs.declared.digests.Stretch.{Stretch}
 pub use Rattle.wg_check.specs.declared.digests.Course.{Course}
 pub use Rattle.wg_check.specs.declared.digests.Digest.{Digest}
 pub use Rattle.wg_check.specs.declared.digests.Digest.TheVariants.{Open, Parted}
-pub use Rattle.wg_check.specs.declared.segments.Entry.{Entry}
-pub use Rattle.wg_check.specs.declared.segments.Entry.TheVariants.{Run, Known}
-pub use Rattle.wg_check.specs.declared.segments.Found.{Found}
+pub use Rattle.wg_check.specs.declared.segments.SegmentEntry.{SegmentEntry}
+pub use Rattle.wg_check.specs.declared.segments.SegmentEntry.TheVariants.{Run, Known}
+pub use Rattle.wg_check.specs.declared.segments.FoundClash.{FoundClash}
 use Rattle.wg_check.specs.declared.segments.Spotted.{Spotted}
 use Rattle.wg_check.specs.Stories.{writer_met}
 use Rattle.wg_check.specs.Segments.{story_at, touches, earlier}
@@ -72,7 +72,7 @@ abbrev pub nothing : Digest
 nothing = Open no_access
 
 -- what one deed tells
-abbrev pub deed_digest : Deed → Digest
+abbrev pub deed_digest : CellDeed → Digest
 deed_digest Fence = Parted no_access no_stretch no_access
 deed_digest (Act place reads writes) = Open (one_access place reads writes)
 
@@ -103,23 +103,23 @@ least_reader (Open s) = reader_of (one_stretch s)
 least_reader (Parted head course tail) = reader_of (followed (followed (one_stretch head) course) (one_stretch tail))
 
 -- what entries tell of a segment
-abbrev pub digest_at : ℕ → List Entry → Digest
+abbrev pub digest_at : ℕ → List SegmentEntry → Digest
 digest_at n [] = nothing
 digest_at n (Known digest ∷ entries) = joined digest (digest_at n entries)
 digest_at n (Run v ∷ entries) = if in_range v.lo v.hi n then joined (deed_digest v.deed) (digest_at n entries) else digest_at n entries
 
 -- what entries tell of a segment behind what was told before
-abbrev pub digest_onto : ℕ → Digest → List Entry → Digest
+abbrev pub digest_onto : ℕ → Digest → List SegmentEntry → Digest
 digest_onto n digest [] = digest
 digest_onto n digest (Known other ∷ entries) = digest_onto n (joined digest other) entries
 digest_onto n digest (Run v ∷ entries) = if in_range v.lo v.hi n then digest_onto n (joined digest (deed_digest v.deed)) entries else digest_onto n digest entries
 
 -- whether an event is on all segments from lo up to but not including hi
-abbrev pub spans : ℕ → ℕ → Event → Bool
+abbrev pub spans : ℕ → ℕ → SegmentEvent → Bool
 spans lo hi v = nat_le v.lo lo && nat_le hi v.hi
 
 -- The entries for the segments from lo up to but not including hi: what is on all of them is told together.
-abbrev pub narrowed : ℕ → ℕ → Digest → List Entry → List Entry
+abbrev pub narrowed : ℕ → ℕ → Digest → List SegmentEntry → List SegmentEntry
 narrowed lo hi digest [] = Known digest ∷ []
 narrowed lo hi digest (Known other ∷ entries) = narrowed lo hi (joined digest other) entries
 narrowed lo hi digest (Run v ∷ entries) =
@@ -128,31 +128,31 @@ narrowed lo hi digest (Run v ∷ entries) =
     else narrowed lo hi digest entries
 
 -- what is found in a segment, if a reader is
-abbrev pub found_here : ℕ → Option (Option ℕ) → Option Found
+abbrev pub found_here : ℕ → Option (Option ℕ) → Option FoundClash
 found_here n None = None
 found_here n (Some reader) = Some (record { reader = reader; segment = n })
 
 -- what entries find in a segment
-abbrev pub found_at : List Entry → ℕ → Option Found
+abbrev pub found_at : List SegmentEntry → ℕ → Option FoundClash
 found_at entries n = found_here n (least_reader (digest_onto n nothing entries))
 
 -- the first, unless the second has an earlier reader
-abbrev pub first_found : Option Found → Option Found → Option Found
+abbrev pub first_found : Option FoundClash → Option FoundClash → Option FoundClash
 first_found None b = b
 first_found (Some a) None = Some a
 first_found (Some a) (Some b) = if earlier b.reader a.reader then Some b else Some a
 
 -- the least reader of so many segments from lo on, with its first segment
-abbrev pub found_among : List Entry → ℕ → ℕ → Option Found
+abbrev pub found_among : List SegmentEntry → ℕ → ℕ → Option FoundClash
 found_among entries lo zero = None
 found_among entries lo (suc n) = first_found (found_at entries lo) (found_among entries (suc lo) n)
 
 -- a reader with the writer that it meets
-abbrev pub with_writer : Found → Option ℕ → Option Spotted
+abbrev pub with_writer : FoundClash → Option ℕ → Option Spotted
 with_writer found None = None
 with_writer found (Some writer) = Some (record { reader = found.reader; segment = found.segment; writer = writer })
 
 -- what is found in the segments, with the writer that it meets there
-abbrev pub told : List Event → Option Found → Option Spotted
+abbrev pub told : List SegmentEvent → Option FoundClash → Option Spotted
 told events None = None
 told events (Some f) = with_writer f (writer_met None f.reader (story_at f.segment 0 events))

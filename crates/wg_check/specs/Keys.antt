@@ -3,8 +3,8 @@ use Rattle.std.specs.Prelude.{ℕ, suc, ◌&&◌, ◌==◌, nat_lt, List, [], �
 use Rattle.wg_rows.specs.Runs.{PartRun, BufferPart, LayerParts, QueryPart, Cell, Byte, Texels, Slice, Query, Cells, Bytes, Layers, Slices, Queries, aspect_number}
 use Rattle.wg_rows.specs.Uses.{AccessKind, kind_reads, kind_writes}
 use Rattle.wg_orders.specs.Trace.{Item, Bar, StepItem, Free}
-use Rattle.wg_check.specs.declared.events.Deed.{Deed}
-use Rattle.wg_check.specs.declared.events.Deed.TheVariants.{Fence, Act}
+use Rattle.wg_check.specs.declared.events.CellDeed.{CellDeed}
+use Rattle.wg_check.specs.declared.events.CellDeed.TheVariants.{Fence, Act}
 use Rattle.wg_check.specs.Segments.{Key, KeyEvent}
 
 -- a key: object, sort, aspect, mip level and place, with bytes before queries before layers before slices
@@ -19,7 +19,7 @@ cell_key (Texels object aspect mip layer) = key object 2 (aspect_number aspect) 
 cell_key (Slice object mip depth) = key object 3 0 mip depth
 
 -- a deed on the keys from lo up to but not including hi
-abbrev pub event : Key → Key → Deed → KeyEvent
+abbrev pub event : Key → Key → CellDeed → KeyEvent
 event lo hi deed = record { lo = lo; hi = hi; deed = deed }
 
 -- A barrier on a buffer or a query set is on all its cells: up to the first key of the next mip level. One on layers
@@ -32,7 +32,7 @@ bar_events (LayerParts object aspect mip lo hi) =
     ∷ (if (aspect_number aspect == 0) && ((lo == 0) && nat_lt 0 hi) then event (key object 3 0 mip 0) (key object 3 0 (suc mip) 0) Fence ∷ [] else [])
 
 -- a deed on the cells of a run
-abbrev pub run_event : Cells → Deed → KeyEvent
+abbrev pub run_event : Cells → CellDeed → KeyEvent
 run_event (Bytes object lo hi) deed = event (key object 0 0 0 lo) (key object 0 0 0 hi) deed
 run_event (Queries object lo hi) deed = event (key object 1 0 0 lo) (key object 1 0 0 hi) deed
 run_event (Layers object aspect mip lo hi) deed = event (key object 2 (aspect_number aspect) mip lo) (key object 2 (aspect_number aspect) mip hi) deed

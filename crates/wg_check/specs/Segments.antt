@@ -3,20 +3,20 @@ use Rattle.std.specs.Prelude.{ℕ, zero, suc, Bool, true, false, not, ◌≡◌,
 use Rattle.wg_rows.specs.Rows.{in_range, list_before}
 use Rattle.wg_check.specs.Stories.{Meeting, clash_from}
 use Rattle.wg_check.specs.declared.stories.Access.{Access}
-use Rattle.wg_check.specs.declared.events.Deed.{Deed}
-use Rattle.wg_check.specs.declared.events.Deed.TheVariants.{Fence, Act}
+use Rattle.wg_check.specs.declared.events.CellDeed.{CellDeed}
+use Rattle.wg_check.specs.declared.events.CellDeed.TheVariants.{Fence, Act}
 pub use Rattle.wg_check.specs.declared.keys.Key.{Key}
 pub use Rattle.wg_check.specs.declared.events.KeyEvent.{KeyEvent}
-use Rattle.wg_check.specs.declared.ends.Event.{Event}
+use Rattle.wg_check.specs.declared.ends.SegmentEvent.{SegmentEvent}
 use Rattle.wg_check.specs.declared.segments.Spotted.{Spotted}
 
 -- what a deed adds to the story behind it
-abbrev pub then_on : Deed → ℕ → List Access → List Access → List Access
+abbrev pub then_on : CellDeed → ℕ → List Access → List Access → List Access
 then_on Fence e fenced same = fenced
 then_on (Act place reads writes) e fenced same = (record { place = place; reads = reads; writes = writes; epoch = e }) ∷ same
 
 -- the story of a segment, behind e barriers
-abbrev pub story_at : ℕ → ℕ → List Event → List Access
+abbrev pub story_at : ℕ → ℕ → List SegmentEvent → List Access
 story_at n e [] = []
 story_at n e (v ∷ events) = if in_range v.lo v.hi n then then_on v.deed e (story_at n (suc e) events) (story_at n e events) else story_at n e events
 
@@ -26,7 +26,7 @@ Rises n [] = Unit {0}
 Rises n (a ∷ story) = (n ≤ a.place) × Rises (suc a.place) story
 
 -- whether an event is on some of the segments from lo up to but not including hi
-abbrev pub touches : ℕ → ℕ → Event → Bool
+abbrev pub touches : ℕ → ℕ → SegmentEvent → Bool
 touches lo hi v = nat_lt v.lo hi && nat_lt lo v.hi
 
 -- whether a reader comes before another, the end last
@@ -47,11 +47,11 @@ better (Some a) None = Some a
 better (Some a) (Some b) = if earlier b.reader a.reader then Some b else Some a
 
 -- the least clash of a segment, if it has one
-abbrev pub clash_at : List Event → ℕ → Option Spotted
+abbrev pub clash_at : List SegmentEvent → ℕ → Option Spotted
 clash_at events n = at_segment n (clash_from None (story_at n 0 events))
 
 -- the least clash of so many segments from lo on
-abbrev pub clash_among : List Event → ℕ → ℕ → Option Spotted
+abbrev pub clash_among : List SegmentEvent → ℕ → ℕ → Option Spotted
 clash_among events lo zero = None
 clash_among events lo (suc n) = better (clash_at events lo) (clash_among events (suc lo) n)
 
@@ -78,7 +78,7 @@ key_story k e [] = []
 key_story k e (v ∷ events) = if lies_in k v then then_on v.deed e (key_story k (suc e) events) (key_story k e events) else key_story k e events
 
 -- an event on segments in place of keys
-abbrev pub ranked : List Key → KeyEvent → Event
+abbrev pub ranked : List Key → KeyEvent → SegmentEvent
 ranked ends v = record { lo = rank ends v.lo; hi = rank ends v.hi; deed = v.deed }
 
 -- One of some keys is this.

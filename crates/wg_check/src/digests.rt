@@ -2,7 +2,7 @@
 ghost use Rattle.std.specs.Prelude.{◌≡◌};
 ghost use Rattle.wg_check.specs.Digests.{one_access, stretched, one_stretch, met_in, left_by, followed, nothing, deed_digest, joined, reader_of, least_reader};
 
-use crate::events::Deed;
+use crate::events::CellDeed;
 
 /// Accesses with no barrier between them: whether a step writes, whether two do, the first reader,
 /// and the first reader beside which another step of the stretch writes.
@@ -130,12 +130,12 @@ impl Digest {
     }
 
     /// What one deed tells.
-    pub fn one(deed: Deed) -> Digest
+    pub fn one(deed: CellDeed) -> Digest
         ensures { result ≡ deed_digest deed }
     {
         match deed {
-            Deed::Fence => Digest::Parted(NO_ACCESS, NO_STRETCH, NO_ACCESS),
-            Deed::Act {
+            CellDeed::Fence => Digest::Parted(NO_ACCESS, NO_STRETCH, NO_ACCESS),
+            CellDeed::Act {
                 place,
                 reads,
                 writes,

@@ -5,16 +5,16 @@ ghost use Rattle.wg_check.specs.Segments.{before, rank, ranked, EndsIn};
 ghost use Rattle.wg_check.specs.Ends.{ends_of, apart_from, Ascending};
 
 use crate::NoMemory;
-use crate::events::{Deed, KeyEvent};
+use crate::events::{CellDeed, KeyEvent};
 use crate::keys::{Key, by_place};
 use std::alloc::Global;
 
 /// A deed, and the segments of its run, from `lo` up to but not including `hi`.
 #[derive(Clone, Copy)]
-pub struct Event {
+pub struct SegmentEvent {
     pub lo: usize,
     pub hi: usize,
-    pub deed: Deed,
+    pub deed: CellDeed,
 }
 
 /// The ends of all runs, as they come.
@@ -87,13 +87,17 @@ pub fn rank(ends: &[Key], key: &Key) -> usize
 }
 
 /// The events by the segments of their runs.
-pub fn ranked(alloc: Global, events: &[KeyEvent], ends: &[Key]) -> Result<Vec<Event>, NoMemory>
+pub fn ranked(
+    alloc: Global,
+    events: &[KeyEvent],
+    ends: &[Key],
+) -> Result<Vec<SegmentEvent>, NoMemory>
     requires { Ascending ends.now }
     ensures { IfOk result (λ segments. segments.items ≡ map (ranked ends.now) events.now) }
 {
     let mut segments = Vec::new(alloc);
     for event in events {
-        segments.push(Event {
+        segments.push(SegmentEvent {
             lo: rank(ends, &event.lo),
             hi: rank(ends, &event.hi),
             deed: event.deed,

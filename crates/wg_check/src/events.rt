@@ -3,7 +3,7 @@ ghost use Rattle.std.specs.Prelude.{◌≡◌, suc, ◌++◌, IfOk, OnOk};
 ghost use Rattle.wg_rows.specs.Runs.{aspect_number};
 ghost use Rattle.wg_rows.specs.Uses.{kind_reads, kind_writes};
 ghost use Rattle.wg_check.specs.Keys.{key, event, bar_events, run_event, row_events, key_events};
-ghost use Rattle.wg_check.specs.declared.events.Deed.TheVariants.{Fence};
+ghost use Rattle.wg_check.specs.declared.events.CellDeed.TheVariants.{Fence};
 
 use crate::NoMemory;
 use crate::keys::Key;
@@ -14,7 +14,7 @@ use wg_trace::steps::Item;
 /// What an item does to the cells of its run: a barrier parts what stands before it from what comes
 /// behind it, and a step accesses them.
 #[derive(Clone, Copy)]
-pub enum Deed {
+pub enum CellDeed {
     Fence,
     Act {
         place: u64,
@@ -28,7 +28,7 @@ pub enum Deed {
 pub struct KeyEvent {
     pub lo: Key,
     pub hi: Key,
-    pub deed: Deed,
+    pub deed: CellDeed,
 }
 
 /// The number of an aspect in printed order.
@@ -58,7 +58,7 @@ fn writes(kind: AccessKind) -> bool
 }
 
 /// A deed on the places of a line from `lo` up to but not including `hi`.
-fn event(object: u64, line: (u64, u64, u64), lo: u64, hi: u64, deed: Deed) -> KeyEvent
+fn event(object: u64, line: (u64, u64, u64), lo: u64, hi: u64, deed: CellDeed) -> KeyEvent
     ensures lo { result.lo ≡ key object line.0 line.1 line.2 lo }
     ensures hi { result.hi ≡ key object line.0 line.1 line.2 hi }
     ensures deed { result.deed ≡ deed }
@@ -79,7 +79,7 @@ fn fence_all(object: u64, sort: u64, mip: u32) -> KeyEvent
     KeyEvent {
         lo: Key::new(object, sort, 0, mip, 0),
         hi: Key::new(object, sort, 0, mip + 1, 0),
-        deed: Deed::Fence,
+        deed: CellDeed::Fence,
     }
 }
 
@@ -99,7 +99,7 @@ fn push_bar(events: &mut Vec<KeyEvent>, part: PartRun) -> Result<(), NoMemory>
             hi,
         } => {
             let line = (2, aspect_number(aspect), u64::from(mip));
-            events.push(event(object, line, u64::from(lo), u64::from(hi), Deed::Fence))?;
+            events.push(event(object, line, u64::from(lo), u64::from(hi), CellDeed::Fence))?;
             if aspect == Aspect::Color && lo == 0 && 0 < hi {
                 events.push(fence_all(object, 3, mip))?;
             }
@@ -109,7 +109,7 @@ fn push_bar(events: &mut Vec<KeyEvent>, part: PartRun) -> Result<(), NoMemory>
 }
 
 /// A deed on a run of cells.
-fn run_event(run: Cells, deed: Deed) -> KeyEvent
+fn run_event(run: Cells, deed: CellDeed) -> KeyEvent
     ensures { result ≡ run_event run deed }
 {
     match run {
@@ -148,7 +148,7 @@ fn push_rows(
     ensures { OnOk result (events.new.items ≡ events.old.items ++ row_events place rows.now) }
 {
     for row in rows {
-        let deed = Deed::Act {
+        let deed = CellDeed::Act {
             place,
             reads: reads(row.1),
             writes: writes(row.1),

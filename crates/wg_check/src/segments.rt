@@ -5,8 +5,8 @@ ghost use Rattle.wg_check.specs.Digests.{digest_onto, told, narrowed, found_at, 
 
 use crate::NoMemory;
 use crate::digests::Digest;
-use crate::ends::Event;
-use crate::events::Deed;
+use crate::ends::SegmentEvent;
+use crate::events::CellDeed;
 use crate::stories::{Access, writer_met};
 use std::alloc::Global;
 
@@ -20,20 +20,20 @@ pub struct Spotted {
 
 /// A reader that clashes, the end as `None`, and the segment where.
 #[derive(Clone, Copy)]
-pub struct Found {
+pub struct FoundClash {
     pub reader: Option<u64>,
     pub segment: usize,
 }
 
 /// Of the deeds on some segments: one that is on a run of them, or what some tell that are on all.
 #[derive(Clone, Copy)]
-pub enum Entry {
-    Run(Event),
+pub enum SegmentEntry {
+    Run(SegmentEvent),
     Known(Digest),
 }
 
 /// The accesses to a segment, in the order of the events.
-fn story_at(alloc: Global, events: &[Event], segment: usize) -> Result<Vec<Access>, NoMemory>
+fn story_at(alloc: Global, events: &[SegmentEvent], segment: usize) -> Result<Vec<Access>, NoMemory>
     ensures { IfOk result (λ story. story.items ≡ story_at segment 0 events.now) }
 {
     let mut story = Vec::new(alloc);
@@ -41,8 +41,8 @@ fn story_at(alloc: Global, events: &[Event], segment: usize) -> Result<Vec<Acces
     for event in events {
         if event.lo <= segment && segment < event.hi {
             match event.deed {
-                Deed::Fence => epoch += 1,
-                Deed::Act {
+                CellDeed::Fence => epoch += 1,
+                CellDeed::Act {
                     place,
                     reads,
                     writes,
@@ -60,40 +60,45 @@ fn story_at(alloc: Global, events: &[Event], segment: usize) -> Result<Vec<Acces
 
 /// The entries for the segments from `lo` up to but not including `hi`: what is on all of them is
 /// told together.
-fn narrowed(alloc: Global, entries: &[Entry], lo: usize, hi: usize) -> Result<Vec<Entry>, NoMemory>
+fn narrowed(
+    alloc: Global,
+    entries: &[SegmentEntry],
+    lo: usize,
+    hi: usize,
+) -> Result<Vec<SegmentEntry>, NoMemory>
     ensures { IfOk result (λ some. some.items ≡ narrowed lo hi nothing entries.now) }
 {
     let mut some = Vec::new(alloc);
     let mut digest = Digest::nothing();
     for entry in entries {
         match *entry {
-            Entry::Known(other) => digest = digest.with(other),
-            Entry::Run(event) => {
+            SegmentEntry::Known(other) => digest = digest.with(other),
+            SegmentEntry::Run(event) => {
                 if event.lo < hi && lo < event.hi {
                     if event.lo <= lo && hi <= event.hi {
                         digest = digest.with(Digest::one(event.deed));
                     } else {
-                        some.push(Entry::Known(digest))?;
-                        some.push(Entry::Run(event))?;
+                        some.push(SegmentEntry::Known(digest))?;
+                        some.push(SegmentEntry::Run(event))?;
                         digest = Digest::nothing();
                     }
                 }
             }
         }
     }
-    some.push(Entry::Known(digest))?;
+    some.push(SegmentEntry::Known(digest))?;
     Ok(some)
 }
 
 /// What entries tell of a segment.
-fn digest_at(entries: &[Entry], segment: usize) -> Digest
+fn digest_at(entries: &[SegmentEntry], segment: usize) -> Digest
     ensures { result ≡ digest_onto segment nothing entries.now }
 {
     let mut digest = Digest::nothing();
     for entry in entries {
         match *entry {
-            Entry::Known(other) => digest = digest.with(other),
-            Entry::Run(event) => {
+            SegmentEntry::Known(other) => digest = digest.with(other),
+            SegmentEntry::Run(event) => {
                 if event.lo <= segment && segment < event.hi {
                     digest = digest.with(Digest::one(event.deed));
                 }
@@ -103,11 +108,11 @@ fn digest_at(entries: &[Entry], segment: usize) -> Digest
     digest
 }
 
-fn found_at(entries: &[Entry], segment: usize) -> Option<Found>
+fn found_at(entries: &[SegmentEntry], segment: usize) -> Option<FoundClash>
     ensures { result ≡ found_at entries.now segment }
 {
     match digest_at(entries, segment).least_reader() {
-        Some(reader) => Some(Found { reader, segment }),
+        Some(reader) => Some(FoundClash { reader, segment }),
         None => None,
     }
 }
@@ -123,7 +128,7 @@ fn earlier(a: Option<u64>, b: Option<u64>) -> bool
 }
 
 /// The first, unless the second has an earlier reader.
-fn first_found(a: Option<Found>, b: Option<Found>) -> Option<Found>
+fn first_found(a: Option<FoundClash>, b: Option<FoundClash>) -> Option<FoundClash>
     ensures { result ≡ first_found a b }
 {
     match (a, b) {
@@ -144,10 +149,10 @@ fn first_found(a: Option<Found>, b: Option<Found>) -> Option<Found>
 #[tactic(auto, using(crate::proofs::Halves::halves, crate::proofs::Halves::no_segments, crate::proofs::Halves::one_segment))]
 fn found_among(
     alloc: Global,
-    entries: &[Entry],
+    entries: &[SegmentEntry],
     lo: usize,
     hi: usize,
-) -> Result<Option<Found>, NoMemory>
+) -> Result<Option<FoundClash>, NoMemory>
     requires { lo ≤ hi }
     ensures { IfOk result (λ found. found ≡ found_among entries.now lo (hi - lo)) }
 {
@@ -167,18 +172,18 @@ fn found_among(
 }
 
 /// The events as entries.
-fn entries_of(alloc: Global, events: &[Event]) -> Result<Vec<Entry>, NoMemory>
+fn entries_of(alloc: Global, events: &[SegmentEvent]) -> Result<Vec<SegmentEntry>, NoMemory>
     ensures { IfOk result (λ entries. entries.items ≡ map Run events.now) }
 {
     let mut entries = Vec::with_capacity(alloc, events.len())?;
     for event in events {
-        entries.push(Entry::Run(*event))?;
+        entries.push(SegmentEntry::Run(*event))?;
     }
     Ok(entries)
 }
 
 /// A reader with the writer that it meets.
-fn with_writer(found: Found, writer: Option<u64>) -> Option<Spotted>
+fn with_writer(found: FoundClash, writer: Option<u64>) -> Option<Spotted>
     ensures { result ≡ with_writer found writer }
 {
     let writer = writer?;
@@ -190,7 +195,11 @@ fn with_writer(found: Found, writer: Option<u64>) -> Option<Spotted>
 }
 
 /// What is found, with the writer that it meets.
-fn told(alloc: Global, events: &[Event], found: Option<Found>) -> Result<Option<Spotted>, NoMemory>
+fn told(
+    alloc: Global,
+    events: &[SegmentEvent],
+    found: Option<FoundClash>,
+) -> Result<Option<Spotted>, NoMemory>
     ensures { IfOk result (λ clash. clash ≡ told events.now found) }
 {
     match found {
@@ -206,7 +215,7 @@ fn told(alloc: Global, events: &[Event], found: Option<Found>) -> Result<Option<
 /// then the writer by the accesses to that segment.
 pub fn clash_among(
     alloc: Global,
-    events: &[Event],
+    events: &[SegmentEvent],
     count: usize,
 ) -> Result<Option<Spotted>, NoMemory>
     requires { (n : ℕ) → Rises 0 (story_at n 0 events.now) }

@@ -5,8 +5,8 @@ use Rattle.std.specs.Global.{Global}
 use Rattle.std.specs.declared.boxed.Box.{Box}
 use Rattle.wg_encoder.specs.declared.bundle.BundleState.{BundleState}
 use Rattle.wg_encoder.specs.declared.done.Done.{Done}
-use Rattle.wg_encoder.specs.declared.known.Known.{Known}
-use Rattle.wg_encoder.specs.declared.known.Known.TheVariants.{Bundle}
+use Rattle.wg_encoder.specs.declared.known.RecorderState.{RecorderState}
+use Rattle.wg_encoder.specs.declared.known.RecorderState.TheVariants.{Bundle}
 use Rattle.wg_encoder.specs.declared.walk.Opened.{Opened}
 use Rattle.wg_encoder.specs.declared.walk.Walk.{Walk}
 
@@ -24,5 +24,5 @@ pub same_walk : {A E : Type 0} (result : Result A E) (walk : Walk) (old : Box Op
 same_walk result walk old new done e n d = refused_so result _ (ap₂ (λ (o : Option (Box Opened Global)) (made : Done). record walk { opened = o; done = made }) (ap (λ v. Some (with_value old v)) n ∙ sym e) d)
 
 -- what is known of a bundle encoder that took nothing
-pub same_bundle : {A E : Type 0} (result : Result A E) (known : Known) (old : Box BundleState Global) (new state : BundleState) → known ≡ Bundle old → state ≡ old.value → OnErr result (new ≡ state) → OnErr result (Bundle (with_value old new) ≡ known)
+pub same_bundle : {A E : Type 0} (result : Result A E) (known : RecorderState) (old : Box BundleState Global) (new state : BundleState) → known ≡ Bundle old → state ≡ old.value → OnErr result (new ≡ state) → OnErr result (Bundle (with_value old new) ≡ known)
 same_bundle result known old new state e v same = refused_one result (new ≡ state) (Bundle (with_value old new) ≡ known) (λ h. ap (λ s. Bundle (with_value old s)) (h ∙ v) ∙ sym e) same

@@ -9,20 +9,20 @@ use Rattle.wg_model.specs.Walk.{begins}
 use Rattle.wg_encoder.specs.Recorders.{targets_left}
 use Rattle.wg_encoder.specs.Walked.{IsKnownOf}
 use Rattle.wg_encoder.specs.Naming.{AreNamedOnce}
-use Rattle.wg_encoder.specs.declared.kept.Kept.{Kept}
+use Rattle.wg_encoder.specs.declared.kept.KeptCommands.{KeptCommands}
 
 -- the kept commands, in order: none as long as there is no place for them
-abbrev pub commands_of : Option (Box Kept Global) → List (On × Command)
+abbrev pub commands_of : Option (Box KeptCommands Global) → List (On × Command)
 commands_of None = []
 commands_of (Some kept) = kept.value.commands.items
 
 -- What is known of the kept commands is what the walk over them finds.
-abbrev pub IsKeptOf : ℕ → Option TargetInfo → Option (Box Kept Global) → Type 0
+abbrev pub IsKeptOf : ℕ → Option TargetInfo → Option (Box KeptCommands Global) → Type 0
 IsKeptOf device targets None = Unit {0}
 IsKeptOf device targets (Some kept) = IsKnownOf device targets (reverse kept.value.commands.items) kept.value.known
 
 -- What is kept of what these name is each of it once.
-abbrev pub IsNaming : Option (Box Kept Global) → Type 0
+abbrev pub IsNaming : Option (Box KeptCommands Global) → Type 0
 IsNaming None = Unit {0}
 IsNaming (Some kept) = AreNamedOnce kept.value.commands.items kept.value.naming
 

@@ -23,8 +23,8 @@ use Rattle.wg_encoder.specs.declared.walk.Opened.{Opened}
 use Rattle.wg_encoder.specs.declared.walk.Walk.{Walk}
 use Rattle.wg_encoder.specs.declared.bundle.BundleState.{BundleState}
 use Rattle.wg_encoder.specs.declared.bundle.BundleState.TheVariants as drawn
-use Rattle.wg_encoder.specs.declared.known.Known.{Known}
-use Rattle.wg_encoder.specs.declared.known.Known.TheVariants as known
+use Rattle.wg_encoder.specs.declared.known.RecorderState.{RecorderState}
+use Rattle.wg_encoder.specs.declared.known.RecorderState.TheVariants as known
 
 -- What is set is what the commands of a pass set that was begun so, as a compute pass.
 abbrev pub IsComputeBy : Bracket → List Command → Settings → Type 0
@@ -108,6 +108,6 @@ IsDrawnOf device None kept state = ⊥
 IsDrawnOf device (Some targets) kept state = IsBundleOf device targets (map (λ (one : On × Command). one.1) kept) state
 
 -- What is known of kept commands, which are those of a bundle encoder where there are targets.
-abbrev pub IsKnownOf : ℕ → Option TargetInfo → Kept → Known → Type 0
+abbrev pub IsKnownOf : ℕ → Option TargetInfo → Kept → RecorderState → Type 0
 IsKnownOf device targets kept (known.Encoder walk) = (targets ≡ None) × IsWalkOf device kept walk
 IsKnownOf device targets kept (known.Bundle state) = IsDrawnOf device targets kept state.value

@@ -6,30 +6,30 @@ ghost use Rattle.wg_encoder.specs.Walked.{IsKnownOf};
 ghost use Rattle.wg_encoder.specs.Kept.{commands_of, IsKeptOf, IsNaming};
 ghost use Rattle.wg_encoder.specs.Naming.{AreNamedOnce, IsNamedBy, HasRoomFor};
 
-use crate::known::Known;
+use crate::known::RecorderState;
 use crate::naming::Naming;
-use crate::targets::Targets;
+use crate::targets::RecorderTargets;
 use std::alloc::Global;
 use wg_types::NoMemory;
 use wg_types::commands::{Command, On};
 
 /// The kept commands in order, each with what it stands on, what is known of them, and what they name.
 #[derive(Drop)]
-pub struct Kept {
+pub struct KeptCommands {
     pub commands: Vec<(On, Command)>,
-    pub known: Known,
+    pub known: RecorderState,
     pub naming: Naming,
 }
 
-impl Kept {
+impl KeptCommands {
     /// Nothing is kept.
-    fn new(alloc: Global, targets: &Targets) -> Result<Kept, NoMemory>
+    fn new(alloc: Global, targets: &RecorderTargets) -> Result<KeptCommands, NoMemory>
         ensures none { IfOk result (λ kept. kept.commands.items ≡ []) }
         ensures known { (device : ℕ) → IfOk result (λ kept. IsKnownOf device targets.now [] kept.known) }
         ensures naming { IfOk result (λ kept. AreNamedOnce [] kept.naming) }
     {
-        let known = Known::new(alloc, targets)?;
-        Ok(Kept {
+        let known = RecorderState::new(alloc, targets)?;
+        Ok(KeptCommands {
             commands: Vec::new(alloc),
             known,
             naming: Naming::new(alloc),
@@ -41,7 +41,7 @@ impl Kept {
         &mut self,
         alloc: Global,
         device: u64,
-        targets: &Targets,
+        targets: &RecorderTargets,
         on: On,
         command: &Command,
     ) -> Result<(), NoMemory>
@@ -71,7 +71,7 @@ impl Kept {
         &mut self,
         alloc: Global,
         device: u64,
-        targets: &Targets,
+        targets: &RecorderTargets,
         on: On,
         command: Command,
     ) -> Result<(), NoMemory>
@@ -95,9 +95,9 @@ impl Kept {
 /// Makes a place for commands. What is made is large, and its room is got ready where a call begins: so this is
 /// no part of `make`, which most often has nothing to do.
 fn make_place(
-    kept: &mut Option<Box<Kept>>,
+    kept: &mut Option<Box<KeptCommands>>,
     alloc: Global,
-    targets: &Targets,
+    targets: &RecorderTargets,
 ) -> Result<(), NoMemory>
     requires { is_some kept.old ≡ false }
     ensures some { OnOk result (is_some kept.new ≡ true) }
@@ -105,13 +105,17 @@ fn make_place(
     ensures kept { (device : ℕ) → IsKeptOf device targets.now kept.old → IsKeptOf device targets.now kept.new }
     ensures naming { IsNaming kept.old → IsNaming kept.new }
 {
-    let fresh = Kept::new(alloc, targets)?;
+    let fresh = KeptCommands::new(alloc, targets)?;
     *kept = Some(Box::new(alloc, fresh)?);
     Ok(())
 }
 
 /// Makes what is kept, where nothing was.
-fn make(kept: &mut Option<Box<Kept>>, alloc: Global, targets: &Targets) -> Result<(), NoMemory>
+fn make(
+    kept: &mut Option<Box<KeptCommands>>,
+    alloc: Global,
+    targets: &RecorderTargets,
+) -> Result<(), NoMemory>
     ensures some { OnOk result (is_some kept.new ≡ true) }
     ensures same { commands_of kept.new ≡ commands_of kept.old }
     ensures kept { (device : ℕ) → IsKeptOf device targets.now kept.old → IsKeptOf device targets.now kept.new }
@@ -125,10 +129,10 @@ fn make(kept: &mut Option<Box<Kept>>, alloc: Global, targets: &Targets) -> Resul
 
 /// Keeps a command.
 pub fn keep(
-    kept: &mut Option<Box<Kept>>,
+    kept: &mut Option<Box<KeptCommands>>,
     alloc: Global,
     device: u64,
-    targets: &Targets,
+    targets: &RecorderTargets,
     on: On,
     command: Command,
 ) -> Result<(), NoMemory>

@@ -9,7 +9,7 @@ ghost use Rattle.wg_encoder.specs.Recorders.{has_open_pass};
 ghost use Rattle.wg_encoder.specs.Walked.{IsWalkOf, IsKnownOf};
 
 use crate::bundle::BundleState;
-use crate::targets::Targets;
+use crate::targets::RecorderTargets;
 use crate::walk::{Walk, note};
 use std::alloc::Global;
 use wg_cbtrack::CbTrack;
@@ -21,7 +21,7 @@ use wg_types::parts::Part;
 
 /// What is known of the kept commands of an encoder, or of a bundle encoder.
 #[derive(Drop)]
-pub enum Known {
+pub enum RecorderState {
     Encoder(Walk),
     Bundle(Box<BundleState>),
 }
@@ -55,16 +55,16 @@ fn track(walk: &Walk) -> Option<&CbTrack>
     Some(&walk.done.deeds)
 }
 
-impl Known {
+impl RecorderState {
     /// Nothing is kept.
-    pub fn new(alloc: Global, targets: &Targets) -> Result<Known, NoMemory>
+    pub fn new(alloc: Global, targets: &RecorderTargets) -> Result<RecorderState, NoMemory>
         ensures { (device : ℕ) → IfOk result (λ known. IsKnownOf device targets.now [] known) }
     {
         let Some(targets) = targets.get() else {
-            return Ok(Known::Encoder(Walk::new(alloc)));
+            return Ok(RecorderState::Encoder(Walk::new(alloc)));
         };
         let state = BundleState::new(alloc, targets)?;
-        Ok(Known::Bundle(Box::new(alloc, state)?))
+        Ok(RecorderState::Bundle(Box::new(alloc, state)?))
     }
 
     /// Notes a command.
@@ -72,7 +72,7 @@ impl Known {
         &mut self,
         alloc: Global,
         device: u64,
-        targets: &Targets,
+        targets: &RecorderTargets,
         kept: &[(On, Command)],
         on: On,
         command: &Command,
@@ -82,8 +82,8 @@ impl Known {
         ensures err { OnErr result (self.new ≡ self.old) }
     {
         match self {
-            Known::Encoder(walk) => return note(walk, alloc, device, kept, on, command),
-            Known::Bundle(state) => return state.take(alloc, device, command),
+            RecorderState::Encoder(walk) => return note(walk, alloc, device, kept, on, command),
+            RecorderState::Bundle(state) => return state.take(alloc, device, command),
         }
     }
 
@@ -92,8 +92,8 @@ impl Known {
         ensures { (device : ℕ) (targets : Option TargetInfo) (commands : List (On × Command)) → IsKnownOf device targets (reverse commands) self.now → result ≡ Verdict device targets commands }
     {
         match self {
-            Known::Encoder(walk) => return walk.verdict,
-            Known::Bundle(state) => return state.verdict(),
+            RecorderState::Encoder(walk) => return walk.verdict,
+            RecorderState::Bundle(state) => return state.verdict(),
         }
     }
 
@@ -102,8 +102,8 @@ impl Known {
         ensures { (device : ℕ) (targets : Option TargetInfo) (commands : List (On × Command)) → IsKnownOf device targets (reverse commands) self.now → IfOk result (λ found. found ≡ first_clash (ScopesOf device targets commands)) }
     {
         match self {
-            Known::Encoder(walk) => return Ok(clash(walk)),
-            Known::Bundle(state) => return state.clash(alloc),
+            RecorderState::Encoder(walk) => return Ok(clash(walk)),
+            RecorderState::Bundle(state) => return state.clash(alloc),
         }
     }
 
@@ -113,8 +113,8 @@ impl Known {
         ensures { (device : ℕ) (targets : Option TargetInfo) (commands : List (On × Command)) → IsKnownOf device targets (reverse commands) self.now → MatchOption result (DeedsOf device targets commands ≡ []) (λ track. track.now ≡ DeedsOf device targets commands) }
     {
         match self {
-            Known::Encoder(walk) => return track(walk),
-            Known::Bundle(_) => return None,
+            RecorderState::Encoder(walk) => return track(walk),
+            RecorderState::Bundle(_) => return None,
         }
     }
 
@@ -123,8 +123,8 @@ impl Known {
         ensures { (device : ℕ) (targets : Option TargetInfo) (commands : List (On × Command)) → IsKnownOf device targets (reverse commands) self.now → result ≡ has_open_pass targets commands }
     {
         match self {
-            Known::Encoder(walk) => return walk.opened.is_some(),
-            Known::Bundle(_) => return false,
+            RecorderState::Encoder(walk) => return walk.opened.is_some(),
+            RecorderState::Bundle(_) => return false,
         }
     }
 
@@ -133,8 +133,8 @@ impl Known {
         ensures { (device : ℕ) (targets : Option TargetInfo) (commands : List (On × Command)) → IsKnownOf device targets (reverse commands) self.now → result ≡ open_depth targets commands }
     {
         match self {
-            Known::Encoder(walk) => return walk.depth,
-            Known::Bundle(state) => return state.depth(),
+            RecorderState::Encoder(walk) => return walk.depth,
+            RecorderState::Bundle(state) => return state.depth(),
         }
     }
 
@@ -143,8 +143,8 @@ impl Known {
         ensures { (device : ℕ) (targets : TargetInfo) (commands : List (On × Command)) → IsKnownOf device (Some targets) (reverse commands) self.now → IfOk result (λ touches. touches ≡ recorded_touches device targets (bundled commands)) }
     {
         match self {
-            Known::Encoder(_) => return Ok(Items::new(alloc)),
-            Known::Bundle(state) => return state.touched(alloc),
+            RecorderState::Encoder(_) => return Ok(Items::new(alloc)),
+            RecorderState::Bundle(state) => return state.touched(alloc),
         }
     }
 }

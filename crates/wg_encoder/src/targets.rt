@@ -18,11 +18,11 @@ enum Held {
 
 /// To what a recorder draws, where it is that of a bundle encoder.
 #[derive(Drop)]
-pub struct Targets {
+pub struct RecorderTargets {
     held: Option<Held>,
 }
 
-impl Model for Targets {
+impl Model for RecorderTargets {
     ghost use Rattle.std.specs.Prelude.{Option, option_map};
     ghost use Rattle.wg_types.specs.declared.render.TargetInfo.{TargetInfo};
     ghost use Rattle.wg_encoder.specs.Held.{targets_in};
@@ -45,19 +45,19 @@ pub fn no_targets(alloc: Global) -> TargetInfo
     }
 }
 
-impl Targets {
+impl RecorderTargets {
     /// Those of an encoder, which draws to none.
-    pub fn none() -> Targets
+    pub fn none() -> RecorderTargets
         ensures { result ≡ None }
     {
-        Targets { held: None }
+        RecorderTargets { held: None }
     }
 
     /// Those of a bundle encoder.
-    pub fn of(targets: Shared<TargetInfo>) -> Targets
+    pub fn of(targets: Shared<TargetInfo>) -> RecorderTargets
         ensures { result ≡ Some targets }
     {
-        Targets {
+        RecorderTargets {
             held: Some(Held::Given(targets)),
         }
     }
@@ -74,13 +74,13 @@ impl Targets {
     }
 
     /// Those that are left after a recording, which takes no memory.
-    pub fn left(&self, alloc: Global) -> Targets
+    pub fn left(&self, alloc: Global) -> RecorderTargets
         ensures { result ≡ targets_left self.now }
     {
         let held = match &self.held {
             None => None,
             Some(_) => Some(Held::Left(no_targets(alloc))),
         };
-        Targets { held }
+        RecorderTargets { held }
     }
 }

@@ -8,7 +8,7 @@ ghost use Rattle.wg_names.specs.Known.{names_in};
 ghost use Rattle.wg_names.specs.Script.{call_bound, lane_bound, phase_bound, walk, script_from, script_of, Binds};
 ghost use Rattle.wg_names.specs.Bound.{IsBound, IsBoundFrom, IsBoundRead};
 
-use crate::known::Known;
+use crate::known::BoundNames;
 use crate::slots::bound_phases;
 use crate::uses::{check_setting, check_uses, made_of, note_setting};
 use std::alloc::Global;
@@ -41,7 +41,7 @@ fn is_name(text: &str) -> bool
 /// and notes the canvas that it configures.
 #[tactic(auto, unfolding(crate::specs::Script::call_bound))]
 fn bind_call<'a>(
-    known: &mut Known<'a>,
+    known: &mut BoundNames<'a>,
     phase: u32,
     lane: u32,
     at: u32,
@@ -78,7 +78,7 @@ fn number_of(index: usize) -> Result<u32, ScriptFault>
 
 /// Goes through the calls of a lane.
 fn bind_lane<'a>(
-    known: &mut Known<'a>,
+    known: &mut BoundNames<'a>,
     phase: u32,
     lane: u32,
     calls: &'a [Call],
@@ -93,7 +93,11 @@ fn bind_lane<'a>(
 }
 
 /// Goes through the lanes of a phase.
-fn bind_phase<'a>(known: &mut Known<'a>, phase: u32, lanes: &'a [Lane]) -> Result<(), ScriptFault>
+fn bind_phase<'a>(
+    known: &mut BoundNames<'a>,
+    phase: u32,
+    lanes: &'a [Lane],
+) -> Result<(), ScriptFault>
     ensures { Binds result (names_in known.new) (phase_bound phase (names_in known.old) lanes.now) }
 {
     for (index, calls) in lanes.iter().enumerate() {
@@ -104,7 +108,7 @@ fn bind_phase<'a>(known: &mut Known<'a>, phase: u32, lanes: &'a [Lane]) -> Resul
 }
 
 /// Goes through the phases of a script.
-fn bind_phases<'a>(known: &mut Known<'a>, phases: &'a [Phase]) -> Result<(), ScriptFault>
+fn bind_phases<'a>(known: &mut BoundNames<'a>, phases: &'a [Phase]) -> Result<(), ScriptFault>
     ensures { Binds result (names_in known.new) (walk phase_bound 0 (names_in known.old) phases.now) }
 {
     for (index, lanes) in phases.iter().enumerate() {
@@ -124,7 +128,7 @@ pub fn bind(alloc: Global, draft: ScriptDraft) -> Result<Script, ScriptFault>
     ensures bound { IfOk result (λ script. IsBound script.phases) }
     ensures from { IfOk result (λ script. IsBoundFrom draft.phases script.phases) }
 {
-    let mut known = Known::new(alloc);
+    let mut known = BoundNames::new(alloc);
     bind_phases(&mut known, draft.phases.as_slice())?;
     let phases = bound_phases(alloc, &known, draft.phases.as_slice())?;
     Ok(Script {

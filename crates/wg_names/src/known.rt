@@ -21,20 +21,20 @@ pub struct Mark {
 /// What each name stands for, of those that were made so far, how many these are, and which of them stand
 /// for canvases that a call has configured.
 #[derive(Drop)]
-pub struct Known<'a> {
+pub struct BoundNames<'a> {
     marks: HashMap<&'a str, Mark>,
     made: u32,
     configured: HashSet<&'a str>,
 }
 
-impl<'a> Known<'a> {
+impl<'a> BoundNames<'a> {
     ghost use Rattle.wg_names.specs.Known.{names_in};
 
     /// No names.
-    pub fn new(alloc: Global) -> Known<'a>
+    pub fn new(alloc: Global) -> BoundNames<'a>
         ensures { names_in result ≡ no_names }
     {
-        Known {
+        BoundNames {
             marks: HashMap::new(alloc),
             made: 0,
             configured: HashSet::new(alloc),

@@ -10,7 +10,7 @@ ghost use Rattle.wg_names.specs.Known.{names_in};
 ghost use Rattle.wg_names.specs.Uses.{made_as, made_of, broken, refused};
 ghost use Rattle.wg_names.specs.Script.{check_uses, check_setting, with_setting, uses_by};
 
-use crate::known::Known;
+use crate::known::BoundNames;
 use wg_script::{Call, Name, NoMemory};
 use wg_types::canvases::{CanvasCall, CanvasOf};
 use wg_types::commands::CommandOf;
@@ -21,7 +21,7 @@ use wg_types::wanted::{Kind, Wanted};
 /// The tests of a name that a call of this phase and lane uses.
 #[derive(Drop)]
 struct Use<'a, 'k> {
-    known: &'k Known<'a>,
+    known: &'k BoundNames<'a>,
     phase: u32,
     lane: u32,
 }
@@ -65,7 +65,7 @@ impl Ask<Name, u8> for UseOn<'_, '_> {
 /// Tests the names that a command uses which stands on something of this kind.
 #[tactic(auto, using(crate::proofs::Asking::uses_asked_on))]
 fn check_command(
-    known: &Known<'_>,
+    known: &BoundNames<'_>,
     phase: u32,
     lane: u32,
     place: Kind,
@@ -80,7 +80,7 @@ fn check_command(
 /// Tests the names that a request uses.
 #[tactic(auto, using(crate::proofs::Asking::uses_asked))]
 fn check_request(
-    known: &Known<'_>,
+    known: &BoundNames<'_>,
     phase: u32,
     lane: u32,
     request: &RequestOf<Name>,
@@ -93,7 +93,12 @@ fn check_request(
 
 /// Tests the canvas that a call names, if it names one.
 #[tactic(auto, using(crate::proofs::Asking::uses_asked))]
-fn check_canvas(known: &Known<'_>, phase: u32, lane: u32, call: &CanvasOf<Name>) -> Result<(), u8>
+fn check_canvas(
+    known: &BoundNames<'_>,
+    phase: u32,
+    lane: u32,
+    call: &CanvasOf<Name>,
+) -> Result<(), u8>
     ensures { result ≡ check_uses (names_in known.now) phase lane (canvas_named call.now) }
 {
     let asked = Use { known, phase, lane };
@@ -102,7 +107,7 @@ fn check_canvas(known: &Known<'_>, phase: u32, lane: u32, call: &CanvasOf<Name>)
 
 /// Tests what a recording call stands on, and then the names that its command uses.
 fn check_record(
-    known: &Known<'_>,
+    known: &BoundNames<'_>,
     phase: u32,
     lane: u32,
     on: &Name,
@@ -115,7 +120,7 @@ fn check_record(
 }
 
 /// Tests the names that a call uses, in the order of its keys: what a recording call stands on comes first.
-pub fn check_uses(known: &Known<'_>, phase: u32, lane: u32, call: &Call) -> Result<(), u8>
+pub fn check_uses(known: &BoundNames<'_>, phase: u32, lane: u32, call: &Call) -> Result<(), u8>
     ensures { result ≡ check_uses (names_in known.now) phase lane (uses_by (names_in known.now) call.now) }
 {
     match call {
@@ -148,7 +153,7 @@ pub fn made_of(call: &Call) -> Option<(&Name, Kind)>
 
 /// Script rule 15: refuses a call that asks for the current texture of a canvas that no earlier call has
 /// configured.
-pub fn check_setting(known: &Known<'_>, call: &Call) -> Result<(), u8>
+pub fn check_setting(known: &BoundNames<'_>, call: &Call) -> Result<(), u8>
     ensures { result ≡ check_setting (names_in known.now) call.now }
 {
     match call {
@@ -164,7 +169,7 @@ pub fn check_setting(known: &Known<'_>, call: &Call) -> Result<(), u8>
 }
 
 /// Notes the canvas that a call configures, if it configures one.
-pub fn note_setting<'a>(known: &mut Known<'a>, call: &'a Call) -> Result<(), NoMemory>
+pub fn note_setting<'a>(known: &mut BoundNames<'a>, call: &'a Call) -> Result<(), NoMemory>
     ensures { OnOk result (names_in known.new ≡ with_setting call.now (names_in known.old)) }
 {
     match call {

@@ -6,7 +6,7 @@ ghost use Rattle.wg_turn.specs.Turns.{IsIn, Entered, Sound, idle, inside, counte
 ghost use Rattle.wg_turn.specs.declared.view.Stage.TheVariants.{Waiting, Inside};
 
 use crate::logged::Logged;
-use crate::turns::{Count, Draw, Enter, Leave, Noted, Turns};
+use crate::turns::{Count, Draw, Enter, Leave, NotedEntry, Turns};
 use crate::view::{Opening, View};
 use atomic_table::{Seat, Table};
 use std::alloc::Global;
@@ -162,7 +162,7 @@ impl<S: Logged> TurnLock<S> {
     }
 
     /// Counts the entry that `noted` is.
-    fn count<N: Noted<Entry<S::Call, S::Reply>>>(
+    fn count<N: NotedEntry<Entry<S::Call, S::Reply>>>(
         &self,
         seat: &mut Seat<Option<S>, View<S, Entry<S::Call, S::Reply>>>,
         number: u32,

@@ -45,11 +45,11 @@ impl<S: Logged> Play<Option<S>, View<S, Entry<S::Call, S::Reply>>> for Enter<S> 
 }
 
 /// The entry that a count adds, alone in a list. Each call picks it.
-pub trait Noted<E> {
+pub trait NotedEntry<E> {
     ghost noted: { List E };
 }
 
-impl<E> Noted<E> for Brand {
+impl<E> NotedEntry<E> for Brand {
     ghost noted = { [] };
 }
 
@@ -58,7 +58,7 @@ pub struct Count<N> {
     marker: PhantomData<N>,
 }
 
-impl<S, E, N: Noted<E>> Play<Option<S>, View<S, E>> for Count<N> {
+impl<S, E, N: NotedEntry<E>> Play<Option<S>, View<S, E>> for Count<N> {
     ghost use Rattle.wg_turn.specs.Turns.{tallied};
 
     ghost then = { tallied N.noted };

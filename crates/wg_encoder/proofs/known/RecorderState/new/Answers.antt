@@ -1,5 +1,5 @@
 use Rattle.std.proofs.Common.{sym}
-use Rattle.wg_encoder.proofs.known.Known.new.Goals as goal
+use Rattle.wg_encoder.proofs.known.RecorderState.new.Goals as goal
 
 pub returns-in_default : goal.returns-in_default
 returns-in_default c = λ device. (sym c.in_default.ensures, c.new.ensures device)

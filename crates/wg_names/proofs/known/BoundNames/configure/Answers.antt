@@ -4,7 +4,7 @@ use Rattle.std.specs.HashMap.{get_by}
 use Rattle.std.specs.HashSet.{contains_by}
 use Rattle.std.proofs.Math.Path.{fun_ext}
 use Rattle.wg_names.specs.Names.{Names}
-use Rattle.wg_names.proofs.known.Known.configure.Goals as goal
+use Rattle.wg_names.proofs.known.BoundNames.configure.Goals as goal
 
 either : (b c : Bool) → (if b then true else c) ≡ (b || c)
 either true c = refl
