@@ -48,7 +48,7 @@ pub fn to_map<'a>(
     mut members: Vec<(&'a str, Value<'a>)>,
 ) -> Result<BTreeMap<&'a str, Value<'a>>, AllocFailed<(&'a str, Value<'a>)>>
     requires { KeysAscend (members_view members.items) }
-    ensures { IfOk result (λ map. map.entries ≡ members.items) }
+    ensures { IfOk result (λ map. map.entries ≡ members.entry.items) }
 {
     let mut map = BTreeMap::new(alloc);
     while let Some((key, value)) = members.pop() {
@@ -62,7 +62,7 @@ pub fn to_list<'a>(
     alloc: Global,
     map: BTreeMap<&'a str, Value<'a>>,
 ) -> Result<Vec<(&'a str, Value<'a>)>, AllocFailed<(&'a str, Value<'a>)>>
-    ensures { IfOk result (λ members. members.items ≡ map.entries) }
+    ensures { IfOk result (λ members. members.items ≡ map.entry.entries) }
 {
     let mut members = Vec::new(alloc);
     for member in map {

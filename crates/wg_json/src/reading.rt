@@ -139,11 +139,11 @@ fn read_more<'a>(
     requires { KeysAscend (members_view first.items) }
     ensures ok { IfOk result
         (λ m. (n : ℕ) → length reader.old ≤ n
-        → converted (λ ms. of_members ms (members_view first.items)) (members (value depth) n reader.old)
+        → converted (λ ms. of_members ms (members_view first.entry.items)) (members (value depth) n reader.old)
         ≡ Some (members_view m.items, reader.new)) }
     ensures shorter { OnOk result (length reader.new < length reader.old) }
     ensures err { result ≡ Err Fault.Refused → (n : ℕ) → length reader.old ≤ n
-        → converted (λ ms. of_members ms (members_view first.items)) (members (value depth) n reader.old) ≡ None }
+        → converted (λ ms. of_members ms (members_view first.entry.items)) (members (value depth) n reader.old) ≡ None }
 {
     let mut found = to_map(alloc, first)?;
     'more: while let Some(key) = reader.next_key()? {

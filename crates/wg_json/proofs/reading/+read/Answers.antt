@@ -240,8 +240,8 @@ read_more-more-preserved t c =
       omega (arith, l.invariant.1),
     )
 
-pub read_more-returns-in_ok-listed-clause-ok : goal.read_more-returns-in_ok-listed-clause-ok
-read_more-returns-in_ok-listed-clause-ok t c n enough =
+pub read_more-returns-clause-ok : goal.read_more-returns-clause-ok
+read_more-returns-clause-ok t c n enough =
     let p = value c.args.depth in
     let l = c.more in
     let i = l.invariant.0 n enough in
