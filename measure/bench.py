@@ -6,7 +6,8 @@ the same number whatever else the machine does, and the most memory that was res
 docs/costs.md. `--long` measures scripts of some 65,536 calls in place of the others, each against one of half its calls, which takes a
 quarter of an hour: where nothing is a square, a call costs the same in both. `--traces` measures `check` on traces of 200,000 lines, each
 against one of half its lines. `--submits` measures what a device does under its lock for the submit of a
-command buffer, by its commands, and what it takes to note one more. `--program PATH` names another program; `--only WORD` measures the
+command buffer, by its commands, and what it takes to note one more. `--texts` measures the processor time for texts of which one object
+has 400,000 members, and with `--check` fails where one takes more than it may. `--program PATH` names another program; `--only WORD` measures the
 scripts alone whose title has the word; `--functions N` lists, below each script, the N functions that took most, and `--inclusive` with all
 that they call.
 
@@ -27,6 +28,7 @@ import sys
 import tempfile
 
 import beside
+import texts
 import through_c
 
 TOP = pathlib.Path(__file__).resolve().parent.parent
@@ -603,7 +605,7 @@ def arguments():
     parser = argparse.ArgumentParser(prog="measure/bench", description=__doc__, formatter_class=argparse.RawDescriptionHelpFormatter)
     parser.add_argument("--program", default=TOP / "crates/wgsim/out/wgsim", type=pathlib.Path)
     parser.add_argument("--only", default="")
-    for word in ("long", "traces", "kept", "submits", "through-c", "check", "beside-browser", "write", "inclusive"):
+    for word in ("long", "traces", "texts", "kept", "submits", "through-c", "check", "beside-browser", "write", "inclusive"):
         parser.add_argument(f"--{word}", action="store_true")
     parser.add_argument("--counts", choices=through_c.COUNTS)
     parser.add_argument("--archive")
@@ -615,7 +617,11 @@ def arguments():
 
 def main():
     words = arguments()
-    if words.through_c or words.check or words.beside_browser or words.kept:
+    if words.texts and words.check:
+        sys.exit(0 if texts.check(words.program) else 1)
+    elif words.texts:
+        texts.table(words.program)
+    elif words.through_c or words.check or words.beside_browser or words.kept:
         loops(words)
     elif words.submits:
         submits(words.program)

@@ -1,3 +1,4 @@
 pub mod Trees
 pub mod Placing
+pub mod Ascending
 pub mod Turns

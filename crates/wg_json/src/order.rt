@@ -1,12 +1,13 @@
-//! Puts members where the order of their keys wants them.
-ghost use Rattle.std.specs.Prelude.{◌≡◌, OnOk};
+//! Puts members where the order of their keys wants them, and moves them to a map and back.
+ghost use Rattle.std.specs.Prelude.{◌≡◌, IfOk, OnOk};
 ghost use Rattle.serde_json.specs.Data.{put};
 ghost use Rattle.wg_json.specs.View.{view, members_view};
-ghost use Rattle.wg_json.specs.Places.{place_from};
+ghost use Rattle.wg_json.specs.Places.{place_from, KeysAscend};
 
 use crate::value::Value;
-use std::alloc::AllocFailed;
+use std::alloc::{AllocFailed, Global};
 use std::cmp::Ordering;
+use std::collections::BTreeMap;
 
 /// Where a key stands among members in the order of their keys, or before which of them it would.
 fn place_of(members: &[(&str, Value<'_>)], key: &str) -> Result<usize, usize>
@@ -39,4 +40,33 @@ pub fn put<'a>(
         }
         Err(place) => members.insert(place, (key, value)),
     }
+}
+
+/// The members of a list, which is in the order of their keys, in a map.
+pub fn to_map<'a>(
+    alloc: Global,
+    mut members: Vec<(&'a str, Value<'a>)>,
+) -> Result<BTreeMap<&'a str, Value<'a>>, AllocFailed<(&'a str, Value<'a>)>>
+    requires { KeysAscend (members_view members.items) }
+    ensures { IfOk result (λ map. map.entries ≡ members.entry.items) }
+{
+    let mut map = BTreeMap::new(alloc);
+    while let Some((key, value)) = members.pop() {
+        map.insert(key, value)?;
+    }
+    Ok(map)
+}
+
+/// The members of a map, in a list.
+pub fn to_list<'a>(
+    alloc: Global,
+    map: BTreeMap<&'a str, Value<'a>>,
+) -> Result<Vec<(&'a str, Value<'a>)>, AllocFailed<(&'a str, Value<'a>)>>
+    ensures { IfOk result (λ members. members.items ≡ map.entry.entries) }
+{
+    let mut members = Vec::new(alloc);
+    for member in map {
+        members.push(member)?;
+    }
+    Ok(members)
 }

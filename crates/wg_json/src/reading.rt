@@ -1,18 +1,22 @@
 //! From bytes to a value, in one pass over the tokens of the text.
-ghost use Rattle.std.specs.Prelude.{◌≡◌, ◌<◌, length, Some, None, Err, IfOk, OnOk, IsUtf8};
+ghost use Rattle.std.specs.Prelude.{◌≡◌, ℕ, ◌<◌, ◌≤◌, length, Some, None, Err, IfOk, OnOk, IsUtf8};
 ghost use Rattle.json.specs.Json.{value, items, members};
 ghost use Rattle.serde_json.specs.Data.{no_members};
 ghost use Rattle.serde_json.specs.Read.{of_json, of_items, of_members, converted, read as read_text};
 ghost use Rattle.wg_json.specs.View.{view, items_view, members_view};
+ghost use Rattle.wg_json.specs.Places.{KeysAscend};
 
 use crate::number::number_of;
-use crate::order::put;
+use crate::order::{put, to_list, to_map};
 use crate::value::Value;
 use json::{Invalid, Reader, Scratch, Token};
 use std::alloc::{AllocFailed, Global};
 
 /// How deep lists and objects may nest.
 const MAX_DEPTH: usize = 127;
+
+/// How many members of an object a list has while it is read, before a map takes them over.
+const MOST_LISTED: usize = 64;
 
 /// Why there is no value: the bytes are none, or there was no memory.
 #[derive(Clone, Copy, Drop)]
@@ -115,8 +119,39 @@ fn read_members<'a>(
     'members: while let Some(key) = reader.next_key()? {
         let member = read_value(alloc, reader, depth)?;
         put(&mut found, key, member)?;
+        if found.len() == MOST_LISTED {
+            let all = read_more(alloc, reader, depth, found)?;
+            return Ok(all);
+        }
     }
     Ok(found)
+}
+
+/// Reads the other members of an object of which these were read.
+#[cycle(read)]
+#[inline(never)]
+fn read_more<'a>(
+    alloc: Global,
+    reader: &mut Reader<'a>,
+    depth: usize,
+    first: Vec<(&'a str, Value<'a>)>,
+) -> Result<Vec<(&'a str, Value<'a>)>, Fault>
+    requires { KeysAscend (members_view first.items) }
+    ensures ok { IfOk result
+        (λ m. (n : ℕ) → length reader.old ≤ n
+        → converted (λ ms. of_members ms (members_view first.entry.items)) (members (value depth) n reader.old)
+        ≡ Some (members_view m.items, reader.new)) }
+    ensures shorter { OnOk result (length reader.new < length reader.old) }
+    ensures err { result ≡ Err Fault.Refused → (n : ℕ) → length reader.old ≤ n
+        → converted (λ ms. of_members ms (members_view first.entry.items)) (members (value depth) n reader.old) ≡ None }
+{
+    let mut found = to_map(alloc, first)?;
+    'more: while let Some(key) = reader.next_key()? {
+        let member = read_value(alloc, reader, depth)?;
+        found.insert(key, member)?;
+    }
+    let listed = to_list(alloc, found)?;
+    Ok(listed)
 }
 
 /// Reads a text.

@@ -1,4 +1,4 @@
-use Rattle.std.proofs.Common.{◌≡◌, ◌-◌, ◌<◌, [], ◌∷◌, length, Some, None, sym, ap, ap₂, ◌∙◌, arith, rules}
+use Rattle.std.proofs.Common.{◌≡◌, ◌-◌, ◌<◌, [], ◌∷◌, length, Some, None, sym, ap, ap₂, ◌∙◌, subst, arith, rules}
 use Rattle.json.specs.Token.{Token}
 use Rattle.json.specs.Json.{parse_map, after_end_array, read_key, items, members, value}
 use Rattle.json.specs.Reads.{token_of}
@@ -7,9 +7,11 @@ use Rattle.serde_json.specs.Data.{null, boolean, number, string, array, object}
 use Rattle.serde_json.specs.Read.{of_json, of_items, of_members, converted}
 use Rattle.serde_json.specs.View.{number_view}
 use Rattle.wg_json.specs.View.{view, members_view}
+use Rattle.wg_json.specs.Places.{KeysAscend}
 use Rattle.wg_json.specs.declared.value.Value.{String, Number, Bool, Null, the_lemmas}
 use Rattle.wg_json.proofs.Turns.{converted-array, converted-object, item_read, item_refused, items_over, member_read, member_refused, key_refused, members_over}
 use Rattle.wg_json.proofs.Trees.{view-Array, view-Object, items_before, items_before-no_items, one_more_item, none_before}
+use Rattle.wg_json.proofs.Ascending.{keys_ascend, members_view-insert_entry}
 use Rattle.wg_json.proofs.reading.+read.Goals as goal
 
 pub read_value-returns-in_err-token-clause-err : goal.read_value-returns-in_err-token-clause-err
@@ -139,7 +141,7 @@ read_items-returns-clause-ok t c =
 pub read_members-members-init : goal.read_members-members-init
 read_members-members-init t c =
     let all = members (value c.args.depth) (length c.args.reader.now) c.args.reader.now in
-    (length c.args.reader.now, omega arith, ap (λ es. converted (λ ms. of_members ms (members_view es)) all) (sym c.new-found.ensures.items), omega arith)
+    (length c.args.reader.now, omega arith, ap (λ es. converted (λ ms. of_members ms (members_view es)) all) (sym c.new-found.ensures.items), omega arith, subst (λ es. KeysAscend (members_view es)) (sym c.new-found.ensures.items) tt)
 
 pub read_members-returns-in_err-key-clause-err : goal.read_members-returns-in_err-key-clause-err
 read_members-returns-in_err-key-clause-err t c refused =
@@ -180,6 +182,7 @@ read_members-members-preserved t c =
       l.invariant.2 ∙ member_read p old n k l.reader s r (view v) (omega (arith, l.invariant.1)) named done.ok
           ∙ ap (λ found. converted (λ ms. of_members ms found) (members p (n - 1) r)) (sym inserted),
       omega (arith, l.invariant.3),
+      subst KeysAscend (sym inserted) (keys_ascend k (view v) old l.invariant.4),
     )
 
 pub read_members-returns-clause-ok : goal.read_members-returns-clause-ok
@@ -189,3 +192,62 @@ read_members-returns-clause-ok t c =
     let n = l.invariant.0 in
     let old = members_view l.found.items in
     l.invariant.2 ∙ members_over p old n l.reader c.next_key.new.self l.invariant.1 (grind arith)
+
+pub read_more-more-init : goal.read_more-more-init
+read_more-more-init t c =
+    let p = value c.args.depth in
+    (λ n enough. (n, enough, ap (λ es. converted (λ ms. of_members ms (members_view es)) (members p n c.args.reader.now)) (sym c.in_ok-found.ensures)), omega arith)
+
+pub read_more-returns-in_err-key-clause-err : goal.read_more-returns-in_err-key-clause-err
+read_more-returns-in_err-key-clause-err t c refused n enough =
+    let p = value c.args.depth in
+    let l = c.more in
+    let i = l.invariant.0 n enough in
+    let old = members_view l.found.entries in
+    i.2 ∙ key_refused p old i.0 l.reader c.in_err-key.ensures.value
+
+pub read_more-returns-in_err-member-clause-err : goal.read_more-returns-in_err-member-clause-err
+read_more-returns-in_err-member-clause-err t c refused n enough =
+    let p = value c.args.depth in
+    let l = c.more in
+    let i = l.invariant.0 n enough in
+    let old = members_view l.found.entries in
+    let k = c.in-Some.key.now in
+    let s = c.next_key.new.self in
+    let named : read_key l.reader ≡ Some (Some k, s) = grind arith in
+    i.2 ∙ member_refused p old i.0 k l.reader s named (c.read_value.ensures.err (grind arith))
+
+pub read_more-more-preserved : goal.read_more-more-preserved
+read_more-more-preserved t c =
+    let p = value c.args.depth in
+    let l = c.more in
+    let old = members_view l.found.entries in
+    let k = c.in-Some.key in
+    let s = c.next_key.new.self in
+    let named : read_key l.reader ≡ Some (Some k.now, s) = grind arith in
+    let done = c.in_ok-member.ensures in
+    let v = c.in_ok-member.member in
+    let r = c.read_value.new.reader in
+    let less = read_key-shorter l.reader (Some k.now) s named in
+    let lesser = done.shorter in
+    let inserted = ap members_view c.in_ok-insert.ensures.entries ∙ members_view-insert_entry k v l.found.entries in (
+      λ n enough. let i = l.invariant.0 n enough in (
+        i.0 - 1,
+        omega (arith, i.1),
+        i.2 ∙ member_read p old i.0 k.now l.reader s r (view v) (omega (arith, i.1)) named done.ok
+            ∙ ap (λ found. converted (λ ms. of_members ms found) (members p (i.0 - 1) r)) (sym inserted),
+      ),
+      omega (arith, l.invariant.1),
+    )
+
+pub read_more-returns-clause-ok : goal.read_more-returns-clause-ok
+read_more-returns-clause-ok t c n enough =
+    let p = value c.args.depth in
+    let l = c.more in
+    let i = l.invariant.0 n enough in
+    let r = c.next_key.new.self in
+    i.2 ∙ members_over p (members_view l.found.entries) i.0 l.reader r i.1 (grind arith) ∙ ap (λ es. Some (members_view es, r)) (sym c.in_ok-listed.ensures)
+
+pub read_members-read_more-requires : goal.read_members-read_more-requires
+read_members-read_more-requires t c =
+    subst KeysAscend (sym c.in_ok-put.ensures) (keys_ascend c.in-Some.key.now (view c.in_ok-member.member) (members_view c.members.found.items) c.members.invariant.4)

@@ -3,17 +3,21 @@ use Rattle.json.specs.Json.{items, members, value, parse_map}
 use Rattle.serde_json.specs.Data.{no_members}
 use Rattle.serde_json.specs.Read.{of_items, of_members, converted}
 use Rattle.wg_json.specs.View.{members_view}
+use Rattle.wg_json.specs.Places.{KeysAscend}
 use Rattle.wg_json.proofs.Trees.{items_before}
 use Rattle.wg_json.proofs.reading.+read.Given as goal
 
 abbrev pub decreases-read_value : goal.decreases-read_value
-decreases-read_value l = 2 * l.depth
+decreases-read_value l = 3 * l.depth
 
 abbrev pub decreases-read_items : goal.decreases-read_items
-decreases-read_items l = 2 * l.depth + 1
+decreases-read_items l = 3 * l.depth + 1
 
 abbrev pub decreases-read_members : goal.decreases-read_members
-decreases-read_members l = 2 * l.depth + 1
+decreases-read_members l = 3 * l.depth + 2
+
+abbrev pub decreases-read_more : goal.decreases-read_more
+decreases-read_more l = 3 * l.depth + 1
 
 abbrev pub invariant-read_items-items : goal.invariant-read_items-items
 invariant-read_items-items l =
@@ -32,3 +36,13 @@ invariant-read_members-members l =
 
 abbrev pub decreases-read_members-members : goal.decreases-read_members-members
 decreases-read_members-members l = length l.reader
+
+abbrev pub invariant-read_more-more : goal.invariant-read_more-more
+invariant-read_more-more l =
+    ((n : ℕ) → length l.fn.reader ≤ n
+    → (m : ℕ) × (length l.reader ≤ m)
+    × (converted (λ ms. of_members ms (members_view l.fn.first.items)) (members (value l.depth) n l.fn.reader) ≡ converted (λ ms. of_members ms (members_view l.found.entries)) (members (value l.depth) m l.reader)))
+    × (length l.reader ≤ length l.fn.reader)
+
+abbrev pub decreases-read_more-more : goal.decreases-read_more-more
+decreases-read_more-more l = length l.reader
