@@ -52,7 +52,7 @@ pub fn to_map<'a>(
 {
     let mut map = BTreeMap::new(alloc);
     while let Some((key, value)) = members.pop() {
-        map.insert(key, value)?;
+        drop(map.insert(key, value)?);
     }
     Ok(map)
 }

@@ -148,7 +148,7 @@ fn read_more<'a>(
     let mut found = to_map(alloc, first)?;
     'more: while let Some(key) = reader.next_key()? {
         let member = read_value(alloc, reader, depth)?;
-        found.insert(key, member)?;
+        drop(found.insert(key, member)?);
     }
     let listed = to_list(alloc, found)?;
     Ok(listed)

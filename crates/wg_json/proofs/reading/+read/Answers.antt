@@ -250,4 +250,40 @@ read_more-returns-clause-ok t c n enough =
 
 pub read_members-read_more-requires : goal.read_members-read_more-requires
 read_members-read_more-requires t c =
-    subst KeysAscend (sym c.in_ok-put.ensures) (keys_ascend c.in-Some.key.now (view c.in_ok-member.member) (members_view c.members.found.items) c.members.invariant.4)
+    (omega arith, subst KeysAscend (sym c.in_ok-put.ensures) (keys_ascend c.in-Some.key.now (view c.in_ok-member.member) (members_view c.members.found.items) c.members.invariant.4))
+
+pub read_members-returns-in_err-all-clause-err : goal.read_members-returns-in_err-all-clause-err
+read_members-returns-in_err-all-clause-err t c refused =
+    let p = value c.args.depth in
+    let l = c.members in
+    let n = l.invariant.0 in
+    let old = members_view l.found.items in
+    let k = c.in-Some.key.now in
+    let s = c.next_key.new.self in
+    let named : read_key l.reader ≡ Some (Some k, s) = grind arith in
+    let done = c.in_ok-member.ensures in
+    let v = c.in_ok-member.member in
+    let r = c.read_value.new.reader in
+    let less = read_key-shorter l.reader (Some k) s named in
+    let lesser = done.shorter in
+    l.invariant.2 ∙ member_read p old n k l.reader s r (view v) (omega (arith, l.invariant.1, less, lesser)) named done.ok
+    ∙ ap (λ found. converted (λ ms. of_members ms found) (members p (n - 1) r)) (sym c.in_ok-put.ensures)
+    ∙ c.read_more.ensures.err (grind arith) (n - 1) (omega (arith, l.invariant.1, less, lesser))
+
+pub read_members-returns-then-len-eq-MOST_LISTED-clause-ok : goal.read_members-returns-then-len-eq-MOST_LISTED-clause-ok
+read_members-returns-then-len-eq-MOST_LISTED-clause-ok t c =
+    let p = value c.args.depth in
+    let l = c.members in
+    let n = l.invariant.0 in
+    let old = members_view l.found.items in
+    let k = c.in-Some.key.now in
+    let s = c.next_key.new.self in
+    let named : read_key l.reader ≡ Some (Some k, s) = grind arith in
+    let done = c.in_ok-member.ensures in
+    let v = c.in_ok-member.member in
+    let r = c.read_value.new.reader in
+    let less = read_key-shorter l.reader (Some k) s named in
+    let lesser = done.shorter in
+    l.invariant.2 ∙ member_read p old n k l.reader s r (view v) (omega (arith, l.invariant.1, less, lesser)) named done.ok
+    ∙ ap (λ found. converted (λ ms. of_members ms found) (members p (n - 1) r)) (sym c.in_ok-put.ensures)
+    ∙ c.in_ok-all.ensures.ok (n - 1) (omega (arith, l.invariant.1, less, lesser))

@@ -33,6 +33,7 @@ invariant-read_members-members l =
     (n : ℕ) × (length l.reader ≤ n)
     × (converted (λ ms. of_members ms no_members) (members (value l.depth) (length l.initial.reader) l.initial.reader) ≡ converted (λ ms. of_members ms (members_view l.found.items)) (members (value l.depth) n l.reader))
     × (length l.reader ≤ length l.initial.reader)
+    × KeysAscend (members_view l.found.items)
 
 abbrev pub decreases-read_members-members : goal.decreases-read_members-members
 decreases-read_members-members l = length l.reader
