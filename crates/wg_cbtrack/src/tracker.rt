@@ -38,6 +38,7 @@ impl Tracker {
     /// Stands for the empty trace, and takes no memory.
     pub fn new(alloc: Global) -> Tracker
         ensures stands { Stands result [] }
+        ensures empty { result ≡ record { last = []; cells = []; last_gone = []; cells_gone = []; spare = 0 } }
         ensures spare { result.spare ≡ 0 }
     {
         Tracker {

@@ -492,6 +492,7 @@ impl State {
         ensures history { self.new.history ≡ self.old.history }
         ensures live { self.new.live ≡ self.old.live }
         ensures gone { self.new.gone ≡ self.old.gone ++ option_to_list result }
+        ensures here { IfSome result (λ number. was_let_go self.old.gone number ≡ false) }
         ensures dead { IfSome result (λ number. IsDead self.old.setup (reverse self.old.history) number) }
     {
         let Some(number) = self.kept.life.next_hint() else {
