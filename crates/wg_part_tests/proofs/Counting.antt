@@ -4,7 +4,7 @@ use Rattle.std.proofs.lemmas.Bool.{and_parts, and_from}
 use Rattle.std.proofs.lemmas.Bool.Decides.{nat_tests}
 use Rattle.std.proofs.Common.{arith}
 use Rattle.wg_entry.specs.declared.Entry.{Entry}
-use Rattle.wg_tests.specs.Counters.{total_after, replays}
+use Rattle.wg_part_tests.specs.Counters.{total_after, replays}
 
 pub total_more : (n : ℕ) (log : List (Entry ℕ ℕ)) (e : Entry ℕ ℕ) → total_after n (log ++ e ∷ []) ≡ e.reply
 total_more n [] e = refl

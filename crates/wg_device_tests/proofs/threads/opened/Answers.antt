@@ -1,7 +1,7 @@
 use Rattle.std.proofs.Common.{◌≡◌, vec_len, sym, ◌∙◌}
 use Rattle.wg_turn.specs.Passes.{AreFresh}
-use Rattle.wg_tests.proofs.Opening.{of_ok, two_fresh}
-use Rattle.wg_tests.proofs.threads.opened.Goals as goal
+use Rattle.wg_device_tests.proofs.Opening.{of_ok, two_fresh}
+use Rattle.wg_device_tests.proofs.threads.opened.Goals as goal
 
 pub returns-clause-first : goal.returns-clause-first
 returns-clause-first c =

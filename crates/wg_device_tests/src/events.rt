@@ -36,11 +36,11 @@ fn made(number: u64, valid: bool) -> Answer {
 
 /// Whether an event is answered so; no promise settles.
 fn ask(core: &mut LoggedCore, event: Event, answer: Answer, fault: Option<Fault>) -> bool {
-    match core.act(0, event) {
-        Ok((reply, _)) => {
+    match core.act(0, event).ok() {
+        Some((reply, _)) => {
             reply.answer == answer && reply.fault == fault && reply.settled.as_slice().is_empty()
         }
-        Err(_) => false,
+        None => false,
     }
 }
 
@@ -193,9 +193,9 @@ fn step(
 ) -> bool {
     let mut spent = Spent::new(*items.allocator());
     items.clear();
-    match core.step(0, event, items, &mut spent) {
-        Ok(reply) => reply.answer == answer && items.len() == count,
-        Err(_) => false,
+    match core.step(0, event, items, &mut spent).ok() {
+        Some(reply) => reply.answer == answer && items.len() == count,
+        None => false,
     }
 }
 

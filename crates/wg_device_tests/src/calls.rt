@@ -1,10 +1,11 @@
 //! The calls of a device, each once, with ample memory: what is replied, whole.
-ghost use Rattle.std.specs.Prelude.{◌+◌, ◌<◌, ◌≤◌};
+ghost use Rattle.std.specs.Prelude.{◌≡◌, ◌+◌, ◌<◌, ◌≤◌, true, is_some};
 ghost use Rattle.wg_turn.specs.Passes.{IsPassOf, calls_of};
 
 use std::alloc::Global;
 use std::sync::Wait;
 use wg_device::{Device, DevicePass};
+use wg_encoder::Recorder;
 use wg_entry::NoMemory;
 use wg_limits::default_limits;
 use wg_types::bindings::{BindingKind, GroupEntryOf, LayoutEntry, ResourceOf, SamplerKind};
@@ -163,13 +164,27 @@ fn of_pipelines<R: Wait>(
     Some((render, made(got, 8).is_some()))
 }
 
+/// Finishes the encoder of a recorder, which is dropped here.
+fn finished<R: Wait>(
+    rt: &R,
+    device: &Device,
+    pass: &mut DevicePass,
+    mut recorder: Recorder,
+) -> Result<(Handle, Reply), NoMemory>
+    requires pass { IsPassOf device.now.lock pass.old × (calls_of pass.old < 100) }
+    requires opened { is_some recorder.encoder ≡ true }
+    ensures { IsPassOf device.now.lock pass.new × (calls_of pass.new ≤ calls_of pass.old + 1) }
+{
+    device.finish(rt, pass, &mut recorder)
+}
+
 /// Submits the commands of an encoder, which are none.
 fn submission<R: Wait>(rt: &R, device: &Device, pass: &mut DevicePass) -> Option<Answer>
-    requires { IsPassOf device.now.lock pass.old × (calls_of pass.old < 100) }
+    requires { IsPassOf device.now.lock pass.old × (calls_of pass.old < 90) }
     ensures { IsPassOf device.now.lock pass.new × (calls_of pass.new ≤ calls_of pass.old + 3) }
 {
-    let (mut recorder, _, _) = device.create_encoder(rt, pass).ok()?;
-    let (buffer, _) = device.finish(rt, pass, &mut recorder).ok()?;
+    let (recorder, _, _) = device.create_encoder(rt, pass).ok()?;
+    let (buffer, _) = finished(rt, device, pass, recorder).ok()?;
     let reply = device.submit(rt, pass, &[buffer]).ok()?;
     Some(reply.answer)
 }

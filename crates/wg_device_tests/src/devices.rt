@@ -122,16 +122,28 @@ fn given_to_second<R: Wait>(rt: &R, alloc: Global, other: &Handle) -> Option<[To
     given(rt, &device, &mut pass, other)
 }
 
-/// A buffer of a new device with serial 1: what a second device answers, and then the first to a write.
+/// A buffer of a device: what a second device answers that is given it, and then the first to a write.
+fn of_first<R: Wait>(
+    rt: &R,
+    alloc: Global,
+    device: &Device,
+    pass: &mut DevicePass,
+) -> Option<([Told; 4], Told)>
+    requires { IsPassOf device.now.lock pass.old × (calls_of pass.old < 10) }
+{
+    let buffer = buffer_of(rt, device, pass)?;
+    let other = given_to_second(rt, alloc, &buffer)?;
+    let written = told(device.write_buffer(rt, pass, &buffer, 0, 16));
+    Some((other, written))
+}
+
+/// The same of a new device with serial 1.
 fn of_two<R: Wait>(rt: &R, alloc: Global) -> Option<([Told; 4], Told)> {
     let Ok((device, mut passes)) = Device::open(alloc, 1024, 1, &default_limits(), 1) else {
         return None;
     };
     let mut pass = passes.pop().unwrap();
-    let buffer = buffer_of(rt, &device, &mut pass)?;
-    let other = given_to_second(rt, alloc, &buffer)?;
-    let written = told(device.write_buffer(rt, &mut pass, &buffer, 0, 16));
-    Some((other, written))
+    of_first(rt, alloc, &device, &mut pass)
 }
 
 /// A command buffer of this number that is invalid by rule 10.

@@ -1,6 +1,6 @@
 //! A counter that keeps its history.
 ghost use Rattle.std.specs.Prelude.{◌≡◌, true};
-ghost use Rattle.wg_tests.specs.Counters.{total_after, replays};
+ghost use Rattle.wg_part_tests.specs.Counters.{total_after, replays};
 
 use wg_turn::{Entry, Logged, Refused};
 
