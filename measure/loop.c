@@ -280,12 +280,12 @@ static const struct {
 /* Opens a device, drives it by calls of a kind, and prints what there was. */
 static int driven_by(size_t kind, uint64_t count) {
     driven it = {.calls = 0};
-    wethlorn_limit no_limits = {0};
+    wethlorn_left left;
     struct rusage used;
-    if (wethlorn_open(UINT64_C(1) << 40, 1, &no_limits, 0, &it.device) != WETHLORN_OK)
+    if (wethlorn_open(UINT64_C(1) << 40, 1, NULL, 0, &it.device) != WETHLORN_OK)
         return 1;
     KINDS[kind].drive(&it, count);
-    if (getrusage(RUSAGE_SELF, &used) || wethlorn_close(&it.device) != WETHLORN_OK)
+    if (getrusage(RUSAGE_SELF, &used) || wethlorn_close(&it.device, &left) != WETHLORN_OK)
         return 1;
     printf("%s %" PRIu64 " calls %" PRIu64 " items %" PRIu64, KINDS[kind].word, count, it.calls, it.items);
     printf(" resident %ld\n", used.ru_maxrss);

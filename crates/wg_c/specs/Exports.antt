@@ -13,7 +13,8 @@ use Rattle.wg_told.specs.declared.items.ToldItem.{ToldItem}
 use Rattle.wg_told.specs.declared.items.ToldUse.{ToldUse}
 use Rattle.wg_told.specs.declared.items.ToldAccess.{ToldAccess}
 use Rattle.wg_told.specs.Items.{item_told, use_told, access_told, uses_of, accesses_of}
-use Rattle.wg_c.specs.Inners.{InnerValue, IsOpened, NothingHasChanged, HasAsked, HasRecorded, HasToldNext, last_of}
+use Rattle.wg_c.specs.declared.left.ToldLeft.{ToldLeft}
+use Rattle.wg_c.specs.Inners.{InnerValue, IsOpened, NothingHasChanged, HasAsked, HasRecorded, HasToldNext, last_of, left_in}
 
 -- what a call does to a device that is closed, and to one that is open
 abbrev pub Over : Option InnerValue → Option InnerValue → Type 0 → (InnerValue → InnerValue → Type 0) → Type 0
@@ -106,10 +107,11 @@ abbrev pub Opens : Option Limits → ℕ → ℕ → Option InnerValue → Optio
 Opens limits budget serial None new status = OpensShut limits budget serial new status
 Opens limits budget serial (Some a) new status = (status ≡ 7) × (new ≡ Some a)
 
--- What a close does: a device that was open is open no longer, and one that was not has status 3.
-abbrev pub Closes : Option InnerValue → Option InnerValue → ℕ → Type 0
-Closes None new status = (status ≡ 3) × (new ≡ None)
-Closes (Some a) new status = (status ≡ 0) × (new ≡ None)
+-- What a close does: a device that was open is open no longer, and how much of it was not told is told; one that was not open has
+-- status 3.
+abbrev pub Closes : Option InnerValue → Option InnerValue → ToldLeft → ToldLeft → ℕ → Type 0
+Closes None new before after status = (status ≡ 3) × (new ≡ None) × (after ≡ before)
+Closes (Some a) new before after status = (status ≡ 0) × (new ≡ None) × (after ≡ left_in a)
 
 -- Drains.
 

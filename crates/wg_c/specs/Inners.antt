@@ -1,5 +1,5 @@
 -- What contracts see of what lies behind a device, and what calls do to it.
-use Rattle.std.specs.Prelude.{◌≡◌, ℕ, zero, suc, ◌+◌, ◌≤◌, ◌++◌, Bool, true, false, List, [], ◌∷◌, length, reverse, slice_get, Option, None, is_none, MatchBool, IfSome, if◌then◌else◌}
+use Rattle.std.specs.Prelude.{◌≡◌, ℕ, zero, suc, ◌+◌, ◌-◌, ◌^◌, ◌≤◌, min, ◌++◌, Bool, true, false, List, [], ◌∷◌, length, reverse, slice_get, Option, None, is_none, MatchBool, IfSome, if◌then◌else◌}
 use Rattle.wg_types.specs.declared.commands.CommandOf.{CommandOf}
 use Rattle.wg_types.specs.declared.commands.On.{On}
 use Rattle.wg_types.specs.declared.limits.Limits.{Limits}
@@ -22,6 +22,7 @@ use Rattle.wg_desk.specs.Sent.{event_sent, seats_after}
 use Rattle.wg_told.specs.declared.replies.ToldReply.{ToldReply}
 use Rattle.wg_told.specs.declared.replies.ToldSettlement.{ToldSettlement}
 use Rattle.wg_told.specs.Replies.{reply_told, kept_told, settlement_told}
+use Rattle.wg_c.specs.declared.left.ToldLeft.{ToldLeft}
 
 -- the desk, the items that were handed out and not let go, how many of these were told, and the settlements that are left to be told
 pub record InnerValue : Type 0 where
@@ -111,6 +112,10 @@ IsCause NoPass missing unbegun = unbegun ≡ true
 abbrev pub last_of : List Item → ℕ → Option Item
 last_of items zero = None
 last_of items (suc n) = slice_get items n
+
+-- how many items and settlements are left to be told, of these at most the greatest number of 64 bits
+abbrev pub left_in : InnerValue → ToldLeft
+left_in a = record { items = length a.items - a.told; settlements = min (length a.settled) (2 ^ 64 - 1) }
 
 -- The next settlement was told, and nothing else changed.
 pub record HasToldNext (old new : InnerValue) (out : ToldSettlement) : Type 0 where

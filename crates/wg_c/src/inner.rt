@@ -5,8 +5,9 @@ ghost use Rattle.wg_types.specs.Requests.{named};
 ghost use Rattle.wg_desk.specs.Seats.{any_missing, handle_at, is_unbegun, passes_at};
 ghost use Rattle.wg_told.specs.Replies.{settlement_told};
 ghost use Rattle.wg_told.specs.Items.{item_told, use_told, access_told, uses_of, accesses_of};
-ghost use Rattle.wg_c.specs.Inners.{IsOpened, HasAsked, HasRecorded, NothingHasChanged, IsCause, HasToldNext, last_of};
+ghost use Rattle.wg_c.specs.Inners.{IsOpened, HasAsked, HasRecorded, NothingHasChanged, IsCause, HasToldNext, last_of, left_in};
 
+use crate::left::ToldLeft;
 use crate::waiting::Waiting;
 use std::alloc::Global;
 use std::marker::Model;
@@ -186,5 +187,15 @@ impl Inner {
     {
         let settlement = self.waiting.next()?;
         Some(settlement_told(settlement))
+    }
+
+    /// How much is left to be told. The settlements are let go.
+    pub fn left(&mut self) -> ToldLeft
+        ensures { result ≡ left_in self.old }
+    {
+        ToldLeft {
+            items: (self.items.len() - self.told) as u64,
+            settlements: self.waiting.clear(),
+        }
     }
 }

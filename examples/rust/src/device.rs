@@ -1,7 +1,7 @@
 //! A device, which is open as long as it lives.
 
 use crate::raw;
-use crate::told::{self, Error, Item, Reply, Settlement};
+use crate::told::{self, Error, Item, Left, Reply, Settlement};
 use crate::values::*;
 use std::ptr;
 use std::sync::atomic::{AtomicU64, Ordering};
@@ -473,10 +473,28 @@ impl Device {
     }
 }
 
+/// The version of the library, as 10,000 times the major number, 100 times the minor number, and the last number.
+pub fn version() -> u32 {
+    unsafe { raw::wethlorn_version() }
+}
+
+impl Device {
+    /// Closes the device. How many items and settlements were not told, and are lost.
+    pub fn close(mut self) -> Left {
+        self.shut()
+    }
+
+    fn shut(&mut self) -> Left {
+        let mut left = raw::Left::default();
+        // A device that was closed, or was not opened for want of memory, is not there to be closed, and nothing of it is left.
+        unsafe { raw::wethlorn_close(&mut self.raw, &mut left) };
+        told::left(&left)
+    }
+}
+
 /// Closes the device. Items and settlements that were not told are lost.
 impl Drop for Device {
     fn drop(&mut self) {
-        // A device that was not opened, for want of memory, is not there to be closed.
-        unsafe { raw::wethlorn_close(&mut self.raw) };
+        self.shut();
     }
 }

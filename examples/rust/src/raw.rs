@@ -72,9 +72,17 @@ pub struct Access {
     pub kind: u32,
 }
 
+#[repr(C)]
+#[derive(Clone, Copy, Default)]
+pub struct Left {
+    pub items: u64,
+    pub settlements: u64,
+}
+
 extern "C" {
+    pub fn wethlorn_version() -> u32;
     pub fn wethlorn_open(budget: u64, serial: u64, limits: *const Limit, limits_count: usize, device: *mut Device) -> u32;
-    pub fn wethlorn_close(device: *mut Device) -> u32;
+    pub fn wethlorn_close(device: *mut Device, out: *mut Left) -> u32;
     pub fn wethlorn_create_buffer(device: *mut Device, who: u32, desc: *const BufferDesc, out: *mut Reply) -> u32;
     pub fn wethlorn_create_texture(device: *mut Device, who: u32, desc: *const TextureDesc, out: *mut Reply) -> u32;
     pub fn wethlorn_create_view(device: *mut Device, who: u32, texture: u64, desc: *const ViewDesc, out: *mut Reply) -> u32;

@@ -133,6 +133,20 @@ pub(crate) fn reply(it: &raw::Reply) -> Reply {
     }
 }
 
+/// What was not told of a device that was closed.
+#[derive(Clone, Copy, Debug, PartialEq, Eq)]
+pub struct Left {
+    pub items: u64,
+    pub settlements: u64,
+}
+
+pub(crate) fn left(it: &raw::Left) -> Left {
+    Left {
+        items: it.items,
+        settlements: it.settlements,
+    }
+}
+
 /// How a promise was settled.
 #[derive(Clone, Copy, Debug, PartialEq, Eq)]
 pub enum How {

@@ -115,3 +115,35 @@ fn values_out_of_range_are_errors() {
     }];
     assert_eq!(Device::open(1024, &limits).err(), Some(Error::BadValue));
 }
+
+#[test]
+fn a_close_tells_what_was_not_drained() {
+    let mut device = Device::open(1024, &[]).unwrap();
+    let buffer = device.create_buffer(ME, &DESC).unwrap().object().unwrap();
+    device.drop_object(ME, buffer).unwrap();
+    device.push_error_scope(ME, FILTER_VALIDATION).unwrap();
+    device.pop_error_scope(ME).unwrap();
+    assert_eq!(
+        device.close(),
+        Left {
+            items: 1,
+            settlements: 1
+        }
+    );
+    assert_eq!(
+        Device::open(1024, &[]).unwrap().close(),
+        Left {
+            items: 0,
+            settlements: 0
+        }
+    );
+}
+
+#[test]
+fn the_library_is_of_the_version_of_the_crate() {
+    let numbers = VERSION.split('.').map(|part| part.parse::<u32>().unwrap());
+    assert_eq!(
+        version(),
+        numbers.zip([10_000, 100, 1]).map(|(number, weight)| number * weight).sum()
+    );
+}
