@@ -20,8 +20,8 @@
  * that stays (docs/costs.md has what was measured). An object that is not dropped is kept.
  *
  * Status. Each call returns a status. WETHLORN_OK: it was made, and `out` has the answer. Otherwise nothing
- * was made: the device is as it was before the call, and `out` is not written. After WETHLORN_NO_MEMORY the
- * call may be made again.
+ * was made: the device is as it was before the call, and `out` is not written, but by WETHLORN_NO_ROOM. After
+ * WETHLORN_NO_MEMORY the call may be made again.
  *
  * Faults. A call that WebGPU refuses has the status WETHLORN_OK, and its reply has the fault: an error is
  * an answer like others.
@@ -89,7 +89,8 @@ enum {
     WETHLORN_BAD_VALUE = 4, /* a value out of its range: nothing was sent */
     WETHLORN_NO_PASS = 5,   /* no pass with this number was begun on the encoder, which is open */
     WETHLORN_END = 6,       /* of a drain: all was told */
-    WETHLORN_IS_OPEN = 7    /* of wethlorn_open: the device is open already */
+    WETHLORN_IS_OPEN = 7,   /* of wethlorn_open: the device is open already */
+    WETHLORN_NO_ROOM = 8    /* of wethlorn_next_items: no room for the next item; `out` has what it takes */
 };
 
 /* What a reply says. */
@@ -387,6 +388,11 @@ typedef struct wethlorn_access {
 typedef struct wethlorn_left {
     uint64_t items, settlements; /* of each how many, at most 2^64 - 1 */
 } wethlorn_left;
+
+/* How many items, with how many uses and accesses. */
+typedef struct wethlorn_counts {
+    uint64_t items, uses, accesses;
+} wethlorn_counts;
 
 typedef struct wethlorn_limit {
     uint32_t name;
@@ -871,6 +877,16 @@ uint32_t wethlorn_execute_bundles(wethlorn_device *device, uint32_t who, uint64_
 /* Tells the next item of the trace. Status: OK, END, CLOSED. Owner: `out` is the caller's. Thread: any,
  * one at a time, under the caller's lock. */
 uint32_t wethlorn_next_item(wethlorn_device *device, wethlorn_item *out);
+
+/* Tells as many of the next items as there is room for, with all their uses and accesses, and `out` says how many
+ * these are. The uses of an item stand behind those of the items before it, and so do its accesses: of a step
+ * there are as many as its `uses` and `accesses` say, and of all else none. Each is told as by the calls that tell
+ * one by one, and both ways may take turns. NO_ROOM: nothing was told, and `out` says how much the next item
+ * takes. END: all were told. Status: OK, NO_ROOM, END, CLOSED. Owner: the arrays and `out` are the caller's.
+ * Thread: any, one at a time, under the caller's lock. */
+uint32_t wethlorn_next_items(wethlorn_device *device, wethlorn_item *items, size_t items_count,
+    wethlorn_use *uses, size_t uses_count, wethlorn_access *accesses, size_t accesses_count,
+    wethlorn_counts *out);
 
 /* Tells a use of the item that was told last, by its index from 0. END: it has no more. An item can be
  * asked until the next call of wethlorn_next_item. Status: OK, END, CLOSED. Owner: `out` is the caller's.

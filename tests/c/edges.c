@@ -1,4 +1,5 @@
-/* Calls at their edges: null pointers for lists of no elements, the version, and what a close tells of what was not drained.
+/* Calls at their edges: null pointers for lists of no elements, the version, what a close tells of what was not drained, and drains of
+ * arrays.
  * Status 0, or 1 where something is wrong, which standard error tells. */
 #include <wethlorn.h>
 #include <stdio.h>
@@ -133,6 +134,120 @@ static void try_close(void) {
     }
 }
 
+static int same_ranges(const wethlorn_range *one, const wethlorn_range *other) {
+    return one->object == other->object && one->lo == other->lo && one->hi == other->hi && one->sort == other->sort &&
+        one->aspect == other->aspect && one->mip == other->mip;
+}
+
+static int same_items(const wethlorn_item *one, const wethlorn_item *other) {
+    return one->what == other->what && one->name == other->name && same_ranges(&one->part, &other->part) && one->from == other->from &&
+        one->to == other->to && one->fresh == other->fresh && one->host == other->host && one->place == other->place &&
+        one->uses == other->uses && one->accesses == other->accesses;
+}
+
+static int same_uses(const wethlorn_use *one, const wethlorn_use *other) {
+    return same_ranges(&one->part, &other->part) && one->usages == other->usages;
+}
+
+static int same_accesses(const wethlorn_access *one, const wethlorn_access *other) {
+    return same_ranges(&one->cells, &other->cells) && one->kind == other->kind;
+}
+
+/* Items that were drained, with their uses and accesses, and how many there are. */
+typedef struct drained {
+    wethlorn_counts counts;
+    wethlorn_item items[MOST];
+    wethlorn_use uses[MOST];
+    wethlorn_access accesses[MOST];
+} drained;
+
+/* Drains by the calls that tell one by one. */
+static void drain_singly(wethlorn_device *device, drained *all) {
+    wethlorn_counts *counts = &all->counts;
+    for (; counts->items < MOST && wethlorn_next_item(device, &all->items[counts->items]) == WETHLORN_OK; counts->items++) {
+        for (size_t at = 0; counts->uses < MOST && wethlorn_item_use(device, at, &all->uses[counts->uses]) == WETHLORN_OK; at++)
+            counts->uses++;
+        for (size_t at = 0; counts->accesses < MOST && wethlorn_item_access(device, at, &all->accesses[counts->accesses]) == WETHLORN_OK; at++)
+            counts->accesses++;
+    }
+    check(counts->items < MOST && counts->uses < MOST && counts->accesses < MOST, "too many items");
+}
+
+/* The items that come next in `all` behind those of `told`, as many as have room. */
+static wethlorn_counts fitting(const drained *all, const wethlorn_counts *told, const wethlorn_counts *room) {
+    wethlorn_counts fit = {0, 0, 0};
+    while (told->items + fit.items < all->counts.items && fit.items < room->items) {
+        const wethlorn_item *item = &all->items[told->items + fit.items];
+        if (fit.uses + item->uses > room->uses || fit.accesses + item->accesses > room->accesses)
+            break;
+        fit.items++;
+        fit.uses += item->uses;
+        fit.accesses += item->accesses;
+    }
+    return fit;
+}
+
+/* Whether what was told now is what stands in `all` behind what was told before, and the rest of the arrays is as it was. */
+static int is_told(const drained *all, const wethlorn_counts *before, const drained *now, const drained *untouched) {
+    int is_so = 1;
+    for (size_t at = 0; at < MOST; at++) {
+        const drained *items = at < now->counts.items ? all : untouched;
+        const drained *uses = at < now->counts.uses ? all : untouched, *accesses = at < now->counts.accesses ? all : untouched;
+        is_so &= same_items(&now->items[at], &items->items[items == all ? before->items + at : at]);
+        is_so &= same_uses(&now->uses[at], &uses->uses[uses == all ? before->uses + at : at]);
+        is_so &= same_accesses(&now->accesses[at], &accesses->accesses[accesses == all ? before->accesses + at : at]);
+    }
+    return is_so;
+}
+
+/* Drains by arrays with so much room, and with more where an item has none. */
+static void drain_by(const drained *all, wethlorn_counts room) {
+    static drained now, untouched;
+    wethlorn_device device = WETHLORN_DEVICE_INIT;
+    wethlorn_counts told = {0, 0, 0};
+    wethlorn_left left;
+    uint32_t status = WETHLORN_OK;
+    memset(&untouched, 0xA5, sizeof untouched);
+    play_undrained(&device);
+    while (status != WETHLORN_END && !is_wrong) {
+        wethlorn_counts fit = fitting(all, &told, &room);
+        const wethlorn_item *item = &all->items[told.items];
+        now = untouched;
+        status = wethlorn_next_items(
+            &device, room.items ? now.items : NULL, room.items, room.uses ? now.uses : NULL, room.uses, room.accesses ? now.accesses : NULL,
+            room.accesses, &now.counts);
+        if (told.items == all->counts.items) {
+            check(status == WETHLORN_END && !memcmp(&now, &untouched, sizeof now), "the end of a drain by arrays");
+        } else if (fit.items) {
+            check(status == WETHLORN_OK && !memcmp(&now.counts, &fit, sizeof fit), "how many items are told");
+            check(is_told(all, &told, &now, &untouched), "what is told of many items");
+            told.items += fit.items, told.uses += fit.uses, told.accesses += fit.accesses;
+        } else {
+            check(status == WETHLORN_NO_ROOM && now.counts.items == 1, "an item for which there is no room");
+            check(now.counts.uses == item->uses && now.counts.accesses == item->accesses, "how much it takes");
+            room = now.counts;
+        }
+    }
+    check(wethlorn_close(&device, &left) == WETHLORN_OK && !left.items, "something is left of a drain by arrays");
+}
+
+/* A drain by arrays of any room tells what a drain one by one tells. */
+static void try_arrays(void) {
+    static drained all;
+    wethlorn_device device = WETHLORN_DEVICE_INIT;
+    wethlorn_counts counts = {9, 9, 9};
+    wethlorn_left left;
+    check(wethlorn_next_items(&device, NULL, 0, NULL, 0, NULL, 0, &counts) == WETHLORN_CLOSED && counts.items == 9, "a closed device is drained");
+    play_undrained(&device);
+    drain_singly(&device, &all);
+    check(wethlorn_close(&device, &left) == WETHLORN_OK, "close");
+    check(all.counts.uses > 3 && all.counts.accesses > 3, "uses and accesses");
+    for (uint64_t items = 0; items <= all.counts.items; items++)
+        for (uint64_t uses = 0; uses <= all.counts.uses; uses++)
+            for (uint64_t accesses = 0; accesses <= all.counts.accesses; accesses++)
+                drain_by(&all, (wethlorn_counts){items, uses, accesses});
+}
+
 /* Lists of no elements are the same by null pointers and by others. */
 static void try_null(void) {
     static const wethlorn_layout_entry layout = WETHLORN_LAYOUT_ENTRY_INIT;
@@ -159,5 +274,6 @@ int main(void) {
     check(wethlorn_version() == WETHLORN_VERSION_NUMBER, "the library has another version than the header");
     try_null();
     try_close();
+    try_arrays();
     return is_wrong;
 }

@@ -33,6 +33,7 @@ impl fmt::Display for Error {
 impl std::error::Error for Error {}
 
 pub(crate) const OK: u32 = 0;
+pub(crate) const NO_ROOM: u32 = 8;
 
 pub(crate) fn error(status: u32) -> Error {
     match status {

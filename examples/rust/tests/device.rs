@@ -147,3 +147,21 @@ fn the_library_is_of_the_version_of_the_crate() {
         numbers.zip([10_000, 100, 1]).map(|(number, weight)| number * weight).sum()
     );
 }
+
+#[test]
+fn all_items_are_those_that_are_told_one_by_one() {
+    let played = |count: u64| {
+        let mut device = Device::open(1 << 20, &[]).unwrap();
+        for _ in 0..count {
+            let buffer = device.create_buffer(ME, &DESC).unwrap().object().unwrap();
+            device.write_buffer(ME, buffer, 4, 8).unwrap();
+        }
+        device
+    };
+    for count in [0, 1, 200] {
+        let mut device = played(count);
+        let singly: Vec<Item> = std::iter::from_fn(|| device.next_item()).collect();
+        assert!(singly.len() as u64 >= count);
+        assert_eq!(played(count).items(), singly);
+    }
+}
