@@ -20,15 +20,15 @@
  * that stays (docs/costs.md has what was measured). An object that is not dropped is kept.
  *
  * Status. Each call returns a status. WETHLORN_OK: it was made, and `out` has the answer. Otherwise nothing
- * was made: the device is as it was before the call, and `out` is not written. After WETHLORN_NO_MEMORY the
- * call may be made again.
+ * was made: the device is as it was before the call, and `out` is not written, but by WETHLORN_NO_ROOM. After
+ * WETHLORN_NO_MEMORY the call may be made again.
  *
  * Faults. A call that WebGPU refuses has the status WETHLORN_OK, and its reply has the fault: an error is
  * an answer like others.
  *
- * Pointers. All are needed, none may be null, not even that of a list of 0 elements. What `const` pointers
- * point to stays the caller's: it is read during the call and not kept. What `out` points to is the caller's
- * too, and may not overlap anything else that the call is given.
+ * Pointers. All are needed, and none may be null but that of a list of 0 elements, which is not looked at. What
+ * `const` pointers point to stays the caller's: it is read during the call and not kept. What `out` points to
+ * is the caller's too, and may not overlap anything else that the call is given.
  *
  * Threads. Any thread may call, one at a time for each device, with the calls ordered by the caller's own
  * lock, or by a thread's start or join. Two devices have nothing in common. No call waits, and none may be
@@ -54,6 +54,9 @@
 #define WETHLORN_VERSION_MAJOR 0
 #define WETHLORN_VERSION_MINOR 4
 #define WETHLORN_VERSION_PATCH 0
+/* What wethlorn_version of the library of this version gives: 10,000 times MAJOR, 100 times MINOR, and PATCH. */
+#define WETHLORN_VERSION_NUMBER \
+    (WETHLORN_VERSION_MAJOR * 10000 + WETHLORN_VERSION_MINOR * 100 + WETHLORN_VERSION_PATCH)
 #include <stddef.h>
 #include <stdint.h>
 #ifdef __cplusplus
@@ -86,7 +89,8 @@ enum {
     WETHLORN_BAD_VALUE = 4, /* a value out of its range: nothing was sent */
     WETHLORN_NO_PASS = 5,   /* no pass with this number was begun on the encoder, which is open */
     WETHLORN_END = 6,       /* of a drain: all was told */
-    WETHLORN_IS_OPEN = 7    /* of wethlorn_open: the device is open already */
+    WETHLORN_IS_OPEN = 7,   /* of wethlorn_open: the device is open already */
+    WETHLORN_NO_ROOM = 8    /* of wethlorn_next_items: no room for the next item; `out` has what it takes */
 };
 
 /* What a reply says. */
@@ -380,6 +384,16 @@ typedef struct wethlorn_access {
     uint32_t kind;
 } wethlorn_access;
 
+/* What was not told of a device that was closed. */
+typedef struct wethlorn_left {
+    uint64_t items, settlements; /* of each how many, at most 2^64 - 1 */
+} wethlorn_left;
+
+/* How many items, with how many uses and accesses. */
+typedef struct wethlorn_counts {
+    uint64_t items, uses, accesses;
+} wethlorn_counts;
+
 typedef struct wethlorn_limit {
     uint32_t name;
     uint64_t value;
@@ -544,6 +558,10 @@ typedef struct wethlorn_texture_write {
 
 /* ---- Devices ---- */
 
+/* The version of the library, as WETHLORN_VERSION_NUMBER has that of this header: no status. Owner: nothing is
+ * given. Thread: any, at any time. */
+uint32_t wethlorn_version(void);
+
 /* Opens a device whose resources may have `budget` bytes. Each device of a process gets another `serial`.
  * It has the default limits, or of those that are asked for the better of default and value; where a limit
  * stands twice the first counts. BAD_VALUE: a name that is none, a value better than the best, or an
@@ -553,10 +571,11 @@ typedef struct wethlorn_texture_write {
 uint32_t wethlorn_open(uint64_t budget, uint64_t serial, const wethlorn_limit *limits, size_t limits_count,
     wethlorn_device *device);
 
-/* Closes a device, with all that it has. Items and settlements that were not told are lost. Status: OK,
- * CLOSED. Owner: the memory behind the device is given back, which no clause says, and it is {0} afterwards,
- * which one says. Thread: any, one at a time, under the caller's lock. */
-uint32_t wethlorn_close(wethlorn_device *device);
+/* Closes a device, with all that it has. Items and settlements that were not told are lost, and `out` says how
+ * many these were: where it says of any items, a driver has not done all that it was to do. Status: OK, CLOSED.
+ * Owner: the memory behind the device is given back, which no clause says, and it is {0} afterwards, which one
+ * says; `out` is the caller's. Thread: any, one at a time, under the caller's lock. */
+uint32_t wethlorn_close(wethlorn_device *device, wethlorn_left *out);
 
 /* ---- What is made. `who` is any number that the caller gives itself: it stands in the history alone. ---- */
 
@@ -858,6 +877,16 @@ uint32_t wethlorn_execute_bundles(wethlorn_device *device, uint32_t who, uint64_
 /* Tells the next item of the trace. Status: OK, END, CLOSED. Owner: `out` is the caller's. Thread: any,
  * one at a time, under the caller's lock. */
 uint32_t wethlorn_next_item(wethlorn_device *device, wethlorn_item *out);
+
+/* Tells as many of the next items as there is room for, with all their uses and accesses, and `out` says how many
+ * these are. The uses of an item stand behind those of the items before it, and so do its accesses: of a step
+ * there are as many as its `uses` and `accesses` say, and of all else none. Each is told as by the calls that tell
+ * one by one, and both ways may take turns. NO_ROOM: nothing was told, and `out` says how much the next item
+ * takes. END: all were told. Status: OK, NO_ROOM, END, CLOSED. Owner: the arrays and `out` are the caller's.
+ * Thread: any, one at a time, under the caller's lock. */
+uint32_t wethlorn_next_items(wethlorn_device *device, wethlorn_item *items, size_t items_count,
+    wethlorn_use *uses, size_t uses_count, wethlorn_access *accesses, size_t accesses_count,
+    wethlorn_counts *out);
 
 /* Tells a use of the item that was told last, by its index from 0. END: it has no more. An item can be
  * asked until the next call of wethlorn_next_item. Status: OK, END, CLOSED. Owner: `out` is the caller's.

@@ -11,11 +11,14 @@
  *   dispatches   so many dispatches in one pass, each behind a setBindGroup
  *   copies       so many copies in one encoder, from one buffer to another
  *   writes       so many writes of one buffer
+ *   undrained    the same, and nothing is drained
+ *   singly       the same, and at the end all is drained item by item, with each use and access
+ *   arrays       the same, and at the end all is drained by arrays
  *   encoders     so many encoders, each with a copy and its finish
  *   groups       so many bind groups, each of which is dropped at once
  *
  * What calls add to the trace and what they settle is drained as an engine does it: behind each call that queues, completes or destroys
- * something, and of a step that is no command of the engine's own the accesses too. Nothing is submitted but in rounds. It prints the kind,
+ * something, and of a step that is no command of the engine's own the accesses too, but where it says otherwise. Nothing is submitted but in rounds. It prints the kind,
  * the count, how many calls and items there were, and the most memory that was resident, in KB. */
 #define _XOPEN_SOURCE 700
 #include "wethlorn.h"
@@ -25,7 +28,7 @@
 #include <string.h>
 #include <sys/resource.h>
 
-enum { ME = 0, SIZE = 64, PART = 16, KEPT = 1000, BEHIND = 3 };
+enum { ME = 0, SIZE = 64, PART = 16, KEPT = 1000, BEHIND = 3, ROOM = 1024 };
 
 /* A device, and what was asked of it. `due` has the operations of the last rounds, in turn. */
 typedef struct driven {
@@ -253,6 +256,42 @@ static void writes(driven *it, uint64_t count) {
         complete(it, op);
 }
 
+/* Writes of which nothing is drained. */
+static void undrained(driven *it, uint64_t count) {
+    uint64_t buffer = make_buffer(it, WETHLORN_BUFFER_USAGE_COPY_DST);
+    for (uint64_t at = 0; at < count; at++) {
+        wethlorn_reply reply = {0};
+        given(it, "writeBuffer", wethlorn_write_buffer(&it->device, ME, buffer, 0, PART, &reply), &reply);
+    }
+}
+
+/* Writes that are drained at the end, item by item, use by use and access by access. */
+static void singly(driven *it, uint64_t count) {
+    wethlorn_item item;
+    wethlorn_use use;
+    wethlorn_access access;
+    undrained(it, count);
+    for (; wethlorn_next_item(&it->device, &item) == WETHLORN_OK; it->items++) {
+        for (size_t at = 0; at < item.uses; at++)
+            if (wethlorn_item_use(&it->device, at, &use) != WETHLORN_OK)
+                exit(1);
+        for (size_t at = 0; at < item.accesses; at++)
+            if (wethlorn_item_access(&it->device, at, &access) != WETHLORN_OK)
+                exit(1);
+    }
+}
+
+/* Writes that are drained at the end, by arrays. */
+static void arrays(driven *it, uint64_t count) {
+    static wethlorn_item items[ROOM];
+    static wethlorn_use uses[ROOM];
+    static wethlorn_access accesses[ROOM];
+    wethlorn_counts counts;
+    undrained(it, count);
+    while (wethlorn_next_items(&it->device, items, ROOM, uses, ROOM, accesses, ROOM, &counts) == WETHLORN_OK)
+        it->items += counts.items;
+}
+
 static void encoders(driven *it, uint64_t count) {
     uint64_t source = make_buffer(it, WETHLORN_BUFFER_USAGE_COPY_SRC), target = make_buffer(it, WETHLORN_BUFFER_USAGE_COPY_DST);
     for (uint64_t at = 0; at < count; at++) {
@@ -274,18 +313,19 @@ static const struct {
     void (*drive)(driven *it, uint64_t count);
 } KINDS[] = {
     {"rounds", rounds}, {"kept", kept}, {"behind", behind}, {"dispatches", dispatches},
-    {"copies", copies}, {"writes", writes}, {"encoders", encoders}, {"groups", groups},
+    {"copies", copies}, {"writes", writes}, {"undrained", undrained}, {"singly", singly}, {"arrays", arrays},
+    {"encoders", encoders}, {"groups", groups},
 };
 
 /* Opens a device, drives it by calls of a kind, and prints what there was. */
 static int driven_by(size_t kind, uint64_t count) {
     driven it = {.calls = 0};
-    wethlorn_limit no_limits = {0};
+    wethlorn_left left;
     struct rusage used;
-    if (wethlorn_open(UINT64_C(1) << 40, 1, &no_limits, 0, &it.device) != WETHLORN_OK)
+    if (wethlorn_open(UINT64_C(1) << 40, 1, NULL, 0, &it.device) != WETHLORN_OK)
         return 1;
     KINDS[kind].drive(&it, count);
-    if (getrusage(RUSAGE_SELF, &used) || wethlorn_close(&it.device) != WETHLORN_OK)
+    if (getrusage(RUSAGE_SELF, &used) || wethlorn_close(&it.device, &left) != WETHLORN_OK)
         return 1;
     printf("%s %" PRIu64 " calls %" PRIu64 " items %" PRIu64, KINDS[kind].word, count, it.calls, it.items);
     printf(" resident %ld\n", used.ru_maxrss);
@@ -296,6 +336,6 @@ int main(int words, char **word) {
     for (size_t kind = 0; words == 3 && kind < sizeof KINDS / sizeof *KINDS; kind++)
         if (!strcmp(KINDS[kind].word, word[1]))
             return driven_by(kind, strtoull(word[2], NULL, 10));
-    fprintf(stderr, "usage: loop rounds|kept|behind|dispatches|copies|writes|encoders|groups COUNT\n");
+    fprintf(stderr, "usage: loop rounds|kept|behind|dispatches|copies|writes|undrained|singly|arrays|encoders|groups COUNT\n");
     return 2;
 }

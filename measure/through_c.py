@@ -25,6 +25,9 @@ COUNTED = {
     "dispatches": "a setBindGroup and a dispatch, in one pass",
     "copies": "a copy, in one encoder",
     "writes": "a writeBuffer",
+    "undrained": "a writeBuffer of which nothing is drained",
+    "singly": "the same, drained at the end item by item, with uses and accesses",
+    "arrays": "the same, drained at the end by arrays of 1,024",
     "encoders": "an encoder with a copy, and its finish",
     "groups": "a createBindGroup, and its drop",
 }

@@ -221,17 +221,17 @@ static void draw_frame(frame *it) {
 
 int main(void) {
     frame it = {.device = {0}};
-    wethlorn_limit no_limits = {.name = 0};
-    if (!report_begin(&it.report) || wethlorn_open(1000000, 1, &no_limits, 0, &it.device))
+    wethlorn_left left = {0};
+    if (!report_begin(&it.report) || wethlorn_open(1000000, 1, NULL, 0, &it.device))
         return 1;
     make_resources(&it);
     make_groups(&it);
     make_pipelines(&it);
     upload(&it);
     draw_frame(&it);
-    uint32_t closed = wethlorn_close(&it.device);
+    uint32_t closed = wethlorn_close(&it.device, &left);
     char *text = report_end(&it.report);
     int is_whole = text && fputs(text, stdout) >= 0 && !fflush(stdout);
     free(text);
-    return !is_whole || closed != WETHLORN_OK;
+    return !is_whole || closed != WETHLORN_OK || left.items || left.settlements;
 }

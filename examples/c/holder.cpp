@@ -7,10 +7,12 @@
 class Device {
 public:
     explicit Device(uint64_t budget) {
-        const wethlorn_limit no_limits = {};
-        check(wethlorn_open(budget, ++serials, &no_limits, 0, &device));
+        check(wethlorn_open(budget, ++serials, nullptr, 0, &device));
     }
-    ~Device() { wethlorn_close(&device); }
+    ~Device() {
+        wethlorn_left left;
+        wethlorn_close(&device, &left);
+    }
     Device(const Device &) = delete;
     Device &operator=(const Device &) = delete;
 

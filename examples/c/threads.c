@@ -108,10 +108,10 @@ int main(int words, char **word) {
     uint64_t rounds = (words > 1 ? strtoull(word[1], NULL, 10) : 1000000) / THREADS / CALLS_OF_A_ROUND;
     shared it = {.objects = rounds * THREADS};
     worker workers[THREADS];
-    wethlorn_limit no_limits = {.name = 0};
+    wethlorn_left left = {0};
     it.made = calloc(it.objects + 1, 1);
     it.released = calloc(it.objects + 1, 1);
-    if (!it.made || !it.released || pthread_mutex_init(&it.lock, NULL) || wethlorn_open(UINT64_C(1) << 40, 1, &no_limits, 0, &it.device))
+    if (!it.made || !it.released || pthread_mutex_init(&it.lock, NULL) || wethlorn_open(UINT64_C(1) << 40, 1, NULL, 0, &it.device))
         return 1;
     for (uint32_t number = 0; number < THREADS; number++) {
         workers[number] = (worker){.shared = &it, .number = number, .rounds = rounds};
@@ -121,7 +121,7 @@ int main(int words, char **word) {
     for (uint32_t number = 0; number < THREADS; number++)
         pthread_join(workers[number].thread, NULL);
     try_dropped(&it);
-    if (it.steps != it.objects || it.releases != it.objects || wethlorn_close(&it.device) != WETHLORN_OK)
+    if (it.steps != it.objects || it.releases != it.objects || wethlorn_close(&it.device, &left) != WETHLORN_OK || left.items)
         refuse(&it, "there are other steps or releases than buffers, or the device was not closed");
     printf("threads %d calls %" PRIu64 " objects %" PRIu64 " steps %" PRIu64 " releases %" PRIu64 "\n", THREADS, it.calls, it.objects, it.steps, it.releases);
     free(it.made);

@@ -33,6 +33,8 @@ SECONDS = 600
 # Each allocation is refused on these, and valgrind plays them: a whole frame, a bundle with queries, and callers that race.
 CLOSELY = ["examples/realistic-frame", "tests/cases/bundles/bundle-and-occlusion-queries", "examples/submit-races-destroy"]
 CALLS_OF_THREADS = 40_000
+# The sources of the program that plays scripts. What else lies beside them is a program of its own.
+PLAYER = ("play", "calls", "refuse")
 # Types with values that they are to take, and with values that they are not to.
 FLAGS = [
     ("wethlorn_visibility", "WETHLORN_VISIBILITY_VERTEX | WETHLORN_VISIBILITY_COMPUTE", True),
@@ -118,7 +120,7 @@ def build(folder, name, sources, linked, *more):
 
 
 def build_player(folder, name, linked, *more):
-    sources = [*sorted(HERE.glob("*.c")), EXAMPLES / "report.c"]
+    sources = [*(HERE / f"{name}.c" for name in PLAYER), EXAMPLES / "report.c"]
     return build(folder, name, sources, [*linked, "-ljansson"], "-Wl,--wrap=malloc,--wrap=realloc", *more)
 
 
@@ -136,6 +138,12 @@ def test_threads(program):
     status, text = run([program, CALLS_OF_THREADS])
     expected = f"threads 8 calls {CALLS_OF_THREADS} objects {8 * rounds} steps {8 * rounds} releases {8 * rounds}\n"
     check(status == 0 and text.decode() == expected, f"{program.name}: status {status}, {text.decode()}")
+
+
+def test_edges(program):
+    """Null pointers for lists of no elements, the version, and what a close tells."""
+    status, said = run([program])
+    check(status == 0 and not said, f"{program.name}: status {status}\n{said.decode()}")
 
 
 def test_holder(folder, linked):
@@ -286,6 +294,8 @@ def test_programs(words):
         test_frame(build(folder, "frame", [EXAMPLES / "frame.c", EXAMPLES / "report.c"], linked))
         test_frame(build(folder, "frame-with-asan", [EXAMPLES / "frame.c", EXAMPLES / "report.c"], linked, *asan))
         test_threads(build(folder, "threads", [EXAMPLES / "threads.c"], linked, "-pthread"))
+        test_edges(build(folder, "edges", [HERE / "edges.c"], linked))
+        test_edges(build(folder, "edges-with-asan", [HERE / "edges.c"], linked, *asan))
         if shutil.which("c++"):
             test_holder(folder, linked)
         if has_library():

@@ -102,6 +102,7 @@ static size_t count_calls(const json_t *script) {
 static char *played(play *it, const json_t *script, const char *report) {
     static uint64_t serial;
     player *p = &it->player;
+    wethlorn_left left = {1, 1};
     char *text;
     memset(it, 0, sizeof *it);
     it->script = script;
@@ -113,8 +114,10 @@ static char *played(play *it, const json_t *script, const char *report) {
     if (p->status != WETHLORN_OK)
         p->wrong = "the device is not opened";
     play_all(it, report);
-    if (wethlorn_close(&p->device) != WETHLORN_OK || p->device.inside || wethlorn_close(&p->device) != WETHLORN_CLOSED)
+    if (wethlorn_close(&p->device, &left) != WETHLORN_OK || p->device.inside || wethlorn_close(&p->device, &left) != WETHLORN_CLOSED)
         p->wrong = "the device is not closed";
+    if (!p->wrong && (left.items || left.settlements))
+        p->wrong = "something is left of a device that was drained";
     json_decref(p->names);
     free(p->all);
     text = report_end(&p->report);

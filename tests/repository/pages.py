@@ -15,6 +15,8 @@ HEADING = re.compile(r"^#{1,6} (.*)$", re.M)
 INNER = re.compile(r"\]\(#([^)]+)\)")
 SHOWN = re.compile(r"^```.*?^```", re.M | re.S)
 PARTS = ("MAJOR", "MINOR", "PATCH")
+# What each part counts for in the number that the library for C tells.
+WEIGHTS = (10_000, 100, 1)
 WRITTEN = ("rules.md", "definitions.md")
 TREE = re.compile(r"^## The folders\n.*?^```\n(.*?)^```$", re.M | re.S)
 
@@ -90,11 +92,14 @@ def check_sentences(top, crates, findings):
 
 
 def check_version(top, crates, findings):
-    """The header, the crate in Rust and the newest part of the changelog tell the version of the file VERSION."""
+    """The header, the library for C, the crate in Rust and the newest part of the changelog tell the version of the file VERSION."""
     version = (top / "VERSION").read_text(encoding="utf-8").strip()
+    number = sum(int(part) * weight for part, weight in zip(version.split("."), WEIGHTS))
     for name, line in (
         ("include/wethlorn.h", f'#define WETHLORN_VERSION "{version}"'),
         *(("include/wethlorn.h", f"#define WETHLORN_VERSION_{part} {number}") for part, number in zip(PARTS, version.split("."))),
+        ("crates/wg_c/src/version.rt", f"const VERSION: u32 = {number};"),
+        ("crates/wg_c/src/version.rt", f"    ensures {{ result ≡ {number} }}"),
         ("examples/rust/Cargo.toml", f'version = "{version}"'),
         ("examples/rust/Cargo.lock", f'version = "{version}"'),
     ):

@@ -1,6 +1,6 @@
 -- What the desk has done, as what lies behind a device shows it.
-use Rattle.std.proofs.Common.{◌≡◌, ℕ, ◌+◌, List, [], ◌∷◌, ◌++◌, Bool, true, false, length, ap, sym, ◌∙◌, subst, append-nil, length-append, arith}
-use Rattle.std.specs.Prelude.{MatchBool}
+use Rattle.std.proofs.Common.{◌≡◌, ℕ, ◌+◌, ◌-◌, ◌≤◌, ◌<◌, List, [], ◌∷◌, ◌++◌, Bool, true, false, Option, Some, drop, length, refl, ap, sym, ◌∙◌, subst, append-nil, length-append, length-drop, arith}
+use Rattle.std.specs.Prelude.{MatchBool, IsSomeAnd, slice_get}
 use Rattle.wg_types.specs.declared.commands.CommandOf.{CommandOf}
 use Rattle.wg_types.specs.declared.commands.On.{On}
 use Rattle.wg_trace.specs.declared.replies.Reply.{Reply}
@@ -17,8 +17,14 @@ use Rattle.wg_desk.specs.Desks.{DeskValue, HasSent, HandsOutGrowth, IsNumber}
 use Rattle.wg_desk.specs.Seats.{found_at, is_late_at, recorded_at}
 use Rattle.wg_desk.specs.Sent.{event_sent, seats_after}
 use Rattle.wg_told.specs.declared.replies.ToldReply.{ToldReply}
+use Rattle.wg_told.specs.declared.drains.ToldCounts.{ToldCounts}
+use Rattle.wg_told.specs.declared.items.ToldItem.{ToldItem}
+use Rattle.wg_told.specs.declared.items.ToldUse.{ToldUse}
+use Rattle.wg_told.specs.declared.items.ToldAccess.{ToldAccess}
+use Rattle.wg_told.specs.Drains.{items_told, uses_told, accesses_told, counts_told, fitting, over, room_in}
 use Rattle.wg_told.specs.Replies.{reply_told, kept_told}
-use Rattle.wg_c.specs.Inners.{InnerValue, AreWaiting, answer_to, HasDone, HasAsked, HasComeLate, HasKept, HasRecorded, late_event, pass_number}
+use Rattle.wg_c.specs.declared.inner.Drained.TheVariants.{Told, Wants}
+use Rattle.wg_c.specs.Inners.{InnerValue, AreWaiting, answer_to, HasDone, HasAsked, HasComeLate, HasKept, HasRecorded, Sheets, told_over, HasDrained, late_event, pass_number}
 
 -- an event that was sent
 done_by : (old new : InnerValue) (who : ℕ) (event : Event) (reply : Reply)
@@ -109,3 +115,63 @@ none_left setup history items left told none waits = record {
   is_end = ap (λ (xs : List Item). (waits.first ++ items) ++ xs) none ∙ (append-nil (waits.first ++ items) ∙ waits.is_end);
   within = omega arith;
 }
+
+-- Drains of many items.
+
+-- what waits to be told where more was told
+pub waits_on : (setup : Setup) (history : List Entry) (items : List Item) (told more : ℕ) → more ≤ length items → AreWaiting setup history items told → AreWaiting setup history items more
+waits_on setup history items told more short waits = record { first = waits.first; is_end = waits.is_end; within = short }
+
+-- no more is told than there is
+pub told_within : (items rest : List Item) (told more : ℕ) → rest ≡ drop told items → told ≤ length items → more ≤ length rest → told + more ≤ length items
+told_within items rest told more is before short =
+    let left : length rest ≡ length items - told = ap (λ (xs : List Item). length xs) is ∙ length-drop told items in
+    omega (arith, left, before, short)
+
+none_of : (xs : List Item) → length xs ≡ 0 → xs ≡ []
+none_of [] e = refl
+none_of (x ∷ xs) e = absurd (omega (arith, e))
+
+-- three lists that are the same are the same sheets
+sheets_same : (one other : Sheets) → one.items ≡ other.items → one.uses ≡ other.uses → one.accesses ≡ other.accesses → one ≡ other
+sheets_same one other items uses accesses =
+    ap (λ (xs : List ToldItem). record { items = xs; uses = one.uses; accesses = one.accesses }) items
+    ∙ (ap (λ (xs : List ToldUse). record { items = other.items; uses = xs; accesses = one.accesses }) uses
+    ∙ ap (λ (xs : List ToldAccess). record { items = other.items; uses = other.uses; accesses = xs }) accesses)
+
+-- the next item has no room
+pub wants_by : (old : InnerValue) (before after : Sheets) (rest : List Item) (item : Item) (taken counts : ToldCounts)
+    → rest ≡ drop old.told old.items → slice_get old.items old.told ≡ Some item
+    → taken ≡ counts_told (fitting (room_in before.items before.uses before.accesses) rest) → taken.items ≡ 0
+    → after.items ≡ over (items_told (fitting (room_in before.items before.uses before.accesses) rest)) before.items
+    → after.uses ≡ over (uses_told (fitting (room_in before.items before.uses before.accesses) rest)) before.uses
+    → after.accesses ≡ over (accesses_told (fitting (room_in before.items before.uses before.accesses) rest)) before.accesses
+    → counts ≡ counts_told (item ∷ [])
+    → HasDrained old old before after (Wants counts)
+wants_by old before after rest item taken counts left next took none items uses accesses wanted =
+    let room = room_in before.items before.uses before.accesses in
+    let empty : fitting room rest ≡ [] = none_of (fitting room rest) (sym (ap (λ (t : ToldCounts). t.items) took) ∙ none) in
+    let untold : after ≡ before
+    = sheets_same after before (items ∙ ap (λ (xs : List Item). over (items_told xs) before.items) empty)
+    (uses ∙ ap (λ (xs : List Item). over (uses_told xs) before.uses) empty) (accesses ∙ ap (λ (xs : List Item). over (accesses_told xs) before.accesses) empty) in
+    let some : IsSomeAnd (slice_get old.items old.told) (λ (x : Item). counts ≡ counts_told (x ∷ []))
+    = subst (λ (o : Option Item). IsSomeAnd o (λ (x : Item). counts ≡ counts_told (x ∷ []))) (sym next) wanted in
+    (ap (fitting room) (sym left) ∙ empty, some, untold, refl)
+
+-- items were told
+pub told_by : (old new : InnerValue) (before after : Sheets) (rest : List Item) (counts : ToldCounts)
+    → rest ≡ drop old.told old.items
+    → counts ≡ counts_told (fitting (room_in before.items before.uses before.accesses) rest) → (counts.items ≡ 0 → ⊥)
+    → after.items ≡ over (items_told (fitting (room_in before.items before.uses before.accesses) rest)) before.items
+    → after.uses ≡ over (uses_told (fitting (room_in before.items before.uses before.accesses) rest)) before.uses
+    → after.accesses ≡ over (accesses_told (fitting (room_in before.items before.uses before.accesses) rest)) before.accesses
+    → new ≡ record old { told = old.told + counts.items }
+    → HasDrained old new before after (Told counts)
+told_by old new before after rest counts left took some items uses accesses is =
+    let room = room_in before.items before.uses before.accesses in
+    let many : counts.items ≡ length (fitting room rest) = ap (λ (t : ToldCounts). t.items) took in
+    let more : 0 < length (fitting room rest) = omega (arith, many, some) in
+    let after_is : after ≡ told_over (fitting room rest) before = sheets_same after (told_over (fitting room rest) before) items uses accesses in
+    let new_is : new ≡ record old { told = old.told + length (fitting room rest) } = is ∙ ap (λ (n : ℕ). record old { told = old.told + n }) many in
+    subst (λ (xs : List Item). (0 < length (fitting room xs)) × (counts ≡ counts_told (fitting room xs)) × (after ≡ told_over (fitting room xs) before) × (new ≡ record old { told = old.told + length (fitting room xs) })) left
+    (more, took, after_is, new_is)

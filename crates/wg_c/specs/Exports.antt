@@ -1,4 +1,4 @@
--- What the exports do, by the status that they return: 0 OK, 1 NO_MEMORY, 2 NO_OBJECT, 3 CLOSED, 4 BAD_VALUE, 5 NO_PASS, 6 END, 7 IS_OPEN.
+-- What the exports do, by the status that they return: 0 OK, 1 NO_MEMORY, 2 NO_OBJECT, 3 CLOSED, 4 BAD_VALUE, 5 NO_PASS, 6 END, 7 IS_OPEN, 8 NO_ROOM.
 use Rattle.std.specs.Prelude.{◌≡◌, ℕ, ◌+◌, ◌||◌, nat_eq, true, [], length, slice_get, Option, Some, None, is_none, option_map, option_and_then, MatchBool, MatchOption}
 use Rattle.wg_types.specs.declared.commands.CommandOf.{CommandOf}
 use Rattle.wg_types.specs.declared.commands.On.{On}
@@ -13,7 +13,10 @@ use Rattle.wg_told.specs.declared.items.ToldItem.{ToldItem}
 use Rattle.wg_told.specs.declared.items.ToldUse.{ToldUse}
 use Rattle.wg_told.specs.declared.items.ToldAccess.{ToldAccess}
 use Rattle.wg_told.specs.Items.{item_told, use_told, access_told, uses_of, accesses_of}
-use Rattle.wg_c.specs.Inners.{InnerValue, IsOpened, NothingHasChanged, HasAsked, HasRecorded, HasToldNext, last_of}
+use Rattle.wg_told.specs.declared.drains.ToldCounts.{ToldCounts}
+use Rattle.wg_c.specs.declared.inner.Drained.TheVariants.{Told, Wants, Ended}
+use Rattle.wg_c.specs.declared.left.ToldLeft.{ToldLeft}
+use Rattle.wg_c.specs.Inners.{InnerValue, IsOpened, NothingHasChanged, HasAsked, HasRecorded, HasToldNext, Sheets, HasDrained, last_of, left_in}
 
 -- what a call does to a device that is closed, and to one that is open
 abbrev pub Over : Option InnerValue → Option InnerValue → Type 0 → (InnerValue → InnerValue → Type 0) → Type 0
@@ -106,10 +109,11 @@ abbrev pub Opens : Option Limits → ℕ → ℕ → Option InnerValue → Optio
 Opens limits budget serial None new status = OpensShut limits budget serial new status
 Opens limits budget serial (Some a) new status = (status ≡ 7) × (new ≡ Some a)
 
--- What a close does: a device that was open is open no longer, and one that was not has status 3.
-abbrev pub Closes : Option InnerValue → Option InnerValue → ℕ → Type 0
-Closes None new status = (status ≡ 3) × (new ≡ None)
-Closes (Some a) new status = (status ≡ 0) × (new ≡ None)
+-- What a close does: a device that was open is open no longer, and how much of it was not told is told; one that was not open has
+-- status 3.
+abbrev pub Closes : Option InnerValue → Option InnerValue → ToldLeft → ToldLeft → ℕ → Type 0
+Closes None new before after status = (status ≡ 3) × (new ≡ None) × (after ≡ before)
+Closes (Some a) new before after status = (status ≡ 0) × (new ≡ None) × (after ≡ left_in a)
 
 -- Drains.
 
@@ -122,6 +126,22 @@ TellsItem before after status old new =
 -- What a call for the next item of the trace tells.
 abbrev pub NextItem : Option InnerValue → Option InnerValue → ToldItem → ToldItem → ℕ → Type 0
 NextItem old new before after status = Over old new (IsShut new before after status) (TellsItem before after status)
+
+-- What a drain of many items tells, by its status: 0 of those that it told, 8 of what the next item takes where there is no room for it.
+abbrev pub TellsItems : Sheets → Sheets → ToldCounts → ToldCounts → ℕ → InnerValue → InnerValue → Type 0
+TellsItems before after counts_before counts status old new =
+    MatchBool (nat_eq status 0) (HasDrained old new before after (Told counts))
+    (MatchBool (nat_eq status 8) (HasDrained old new before after (Wants counts))
+    ((status ≡ 6) × HasDrained old new before after Ended × (counts ≡ counts_before)))
+
+-- What a closed device tells of many items: nothing.
+abbrev pub TellsNoItems : Option InnerValue → Sheets → Sheets → ToldCounts → ToldCounts → ℕ → Type 0
+TellsNoItems new before after counts_before counts status = (status ≡ 3) × (new ≡ None) × (after ≡ before) × (counts ≡ counts_before)
+
+-- What a call for the next items of the trace tells.
+abbrev pub NextItems : Option InnerValue → Option InnerValue → Sheets → Sheets → ToldCounts → ToldCounts → ℕ → Type 0
+NextItems old new before after counts_before counts status =
+    Over old new (TellsNoItems new before after counts_before counts status) (TellsItems before after counts_before counts status)
 
 -- a part of the item that was told last is told, if it has that
 abbrev pub TellsPart : {A : Type 0} → (InnerValue → Option A) → A → A → ℕ → InnerValue → InnerValue → Type 0

@@ -1,5 +1,5 @@
 -- What contracts see of what lies behind a device, and what calls do to it.
-use Rattle.std.specs.Prelude.{◌≡◌, ℕ, zero, suc, ◌+◌, ◌≤◌, ◌++◌, Bool, true, false, List, [], ◌∷◌, length, reverse, slice_get, Option, None, is_none, MatchBool, IfSome, if◌then◌else◌}
+use Rattle.std.specs.Prelude.{◌≡◌, ℕ, zero, suc, ◌+◌, ◌-◌, ◌^◌, ◌<◌, ◌≤◌, min, ◌++◌, drop, Bool, true, false, List, [], ◌∷◌, length, reverse, slice_get, Option, None, is_none, MatchBool, IfSome, IsSomeAnd, if◌then◌else◌}
 use Rattle.wg_types.specs.declared.commands.CommandOf.{CommandOf}
 use Rattle.wg_types.specs.declared.commands.On.{On}
 use Rattle.wg_types.specs.declared.limits.Limits.{Limits}
@@ -22,6 +22,14 @@ use Rattle.wg_desk.specs.Sent.{event_sent, seats_after}
 use Rattle.wg_told.specs.declared.replies.ToldReply.{ToldReply}
 use Rattle.wg_told.specs.declared.replies.ToldSettlement.{ToldSettlement}
 use Rattle.wg_told.specs.Replies.{reply_told, kept_told, settlement_told}
+use Rattle.wg_told.specs.declared.drains.ToldCounts.{ToldCounts}
+use Rattle.wg_told.specs.declared.items.ToldItem.{ToldItem}
+use Rattle.wg_told.specs.declared.items.ToldUse.{ToldUse}
+use Rattle.wg_told.specs.declared.items.ToldAccess.{ToldAccess}
+use Rattle.wg_told.specs.Drains.{items_told, uses_told, accesses_told, counts_told, fitting, over, room_in}
+use Rattle.wg_c.specs.declared.inner.Drained.{Drained}
+use Rattle.wg_c.specs.declared.inner.Drained.TheVariants.{Told, Wants, Ended}
+use Rattle.wg_c.specs.declared.left.ToldLeft.{ToldLeft}
 
 -- the desk, the items that were handed out and not let go, how many of these were told, and the settlements that are left to be told
 pub record InnerValue : Type 0 where
@@ -111,6 +119,38 @@ IsCause NoPass missing unbegun = unbegun ≡ true
 abbrev pub last_of : List Item → ℕ → Option Item
 last_of items zero = None
 last_of items (suc n) = slice_get items n
+
+-- the lists of a caller for items, for their uses and for their accesses
+pub record Sheets : Type 0 where
+  pub items : List ToldItem
+  pub uses : List ToldUse
+  pub accesses : List ToldAccess
+
+-- the items that wait to be told for which there is room, from the next one on, up to one for which there is none
+abbrev pub fitting_in : Sheets → InnerValue → List Item
+fitting_in sheets a = fitting (room_in sheets.items sheets.uses sheets.accesses) (drop a.told a.items)
+
+-- the lists of a caller with items over their beginnings, as each is told by itself
+abbrev pub told_over : List Item → Sheets → Sheets
+told_over told sheets = record {
+  items = over (items_told told) sheets.items;
+  uses = over (uses_told told) sheets.uses;
+  accesses = over (accesses_told told) sheets.accesses;
+}
+
+-- What a drain of many items has done: as many were told as there was room for, and at least one; or there was no room for the next, and
+-- it is told how much it takes; or all were told before, and the list is emptied.
+abbrev pub HasDrained : InnerValue → InnerValue → Sheets → Sheets → Drained → Type 0
+HasDrained old new before after (Told counts) =
+    (0 < length (fitting_in before old)) × (counts ≡ counts_told (fitting_in before old)) × (after ≡ told_over (fitting_in before old) before)
+    × (new ≡ record old { told = old.told + length (fitting_in before old) })
+HasDrained old new before after (Wants counts) =
+    (fitting_in before old ≡ []) × IsSomeAnd (slice_get old.items old.told) (λ item. counts ≡ counts_told (item ∷ [])) × (after ≡ before) × (new ≡ old)
+HasDrained old new before after Ended = (old.told ≡ length old.items) × (after ≡ before) × (new ≡ record old { items = []; told = 0 })
+
+-- how many items and settlements are left to be told, of these at most the greatest number of 64 bits
+abbrev pub left_in : InnerValue → ToldLeft
+left_in a = record { items = length a.items - a.told; settlements = min (length a.settled) (2 ^ 64 - 1) }
 
 -- The next settlement was told, and nothing else changed.
 pub record HasToldNext (old new : InnerValue) (out : ToldSettlement) : Type 0 where

@@ -4,6 +4,7 @@ ghost use Rattle.wg_c.specs.Exports.{Opens, Closes};
 
 use crate::boundary::{give, take};
 use crate::inner::Inner;
+use crate::left::ToldLeft;
 use crate::sealed::Device;
 use crate::statuses::{BAD_VALUE, CLOSED, IS_OPEN, NO_MEMORY, OK};
 use std::alloc::Global;
@@ -38,13 +39,14 @@ pub extern "C" fn wethlorn_open(
     }
 }
 
-/// Closes a device.
+/// Closes a device, and tells how much of it was not told.
 #[unsafe(no_mangle)]
-pub extern "C" fn wethlorn_close(alloc: Global, device: &mut Device) -> u32
-    ensures { Closes device.old.inside device.new.inside result }
+pub extern "C" fn wethlorn_close(alloc: Global, device: &mut Device, out: &mut ToldLeft) -> u32
+    ensures { Closes device.old.inside device.new.inside out.old out.new result }
 {
-    match take(device, alloc) {
-        Some(_) => OK,
-        None => CLOSED,
-    }
+    let Some(mut inner) = take(device, alloc) else {
+        return CLOSED;
+    };
+    *out = inner.left();
+    OK
 }

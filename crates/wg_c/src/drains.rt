@@ -1,11 +1,12 @@
 //! The exports that tell what waits to be told.
-ghost use Rattle.wg_c.specs.Exports.{NextItem, ItemUse, ItemAccess, NextSettlement};
+ghost use Rattle.wg_c.specs.Exports.{NextItem, NextItems, ItemUse, ItemAccess, NextSettlement};
 
 use crate::boundary::{give, take};
+use crate::inner::Drained;
 use crate::sealed::Device;
-use crate::statuses::{CLOSED, END, OK};
+use crate::statuses::{CLOSED, END, NO_ROOM, OK};
 use std::alloc::Global;
-use wg_told::{ToldAccess, ToldItem, ToldSettlement, ToldUse};
+use wg_told::{ToldAccess, ToldCounts, ToldItem, ToldSettlement, ToldUse};
 
 /// Tells the next item of the trace.
 #[unsafe(no_mangle)]
@@ -23,6 +24,38 @@ pub extern "C" fn wethlorn_next_item(alloc: Global, device: &mut Device, out: &m
             OK
         }
         None => END,
+    }
+}
+
+/// Tells as many of the next items of the trace as there is room for, with their uses and accesses.
+#[unsafe(no_mangle)]
+pub extern "C" fn wethlorn_next_items(
+    alloc: Global,
+    device: &mut Device,
+    items: &mut [ToldItem],
+    uses: &mut [ToldUse],
+    accesses: &mut [ToldAccess],
+    out: &mut ToldCounts,
+) -> u32
+    ensures { NextItems device.old.inside device.new.inside
+        (record { items = items.old; uses = uses.old; accesses = accesses.old })
+        (record { items = items.new; uses = uses.new; accesses = accesses.new }) out.old out.new result }
+{
+    let Some(mut inner) = take(device, alloc) else {
+        return CLOSED;
+    };
+    let drained = inner.next_items(items, uses, accesses);
+    give(device, inner);
+    match drained {
+        Drained::Told(counts) => {
+            *out = counts;
+            OK
+        }
+        Drained::Wants(counts) => {
+            *out = counts;
+            NO_ROOM
+        }
+        Drained::Ended => END,
     }
 }
 

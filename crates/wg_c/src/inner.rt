@@ -5,15 +5,16 @@ ghost use Rattle.wg_types.specs.Requests.{named};
 ghost use Rattle.wg_desk.specs.Seats.{any_missing, handle_at, is_unbegun, passes_at};
 ghost use Rattle.wg_told.specs.Replies.{settlement_told};
 ghost use Rattle.wg_told.specs.Items.{item_told, use_told, access_told, uses_of, accesses_of};
-ghost use Rattle.wg_c.specs.Inners.{IsOpened, HasAsked, HasRecorded, NothingHasChanged, IsCause, HasToldNext, last_of};
+ghost use Rattle.wg_c.specs.Inners.{IsOpened, HasAsked, HasRecorded, NothingHasChanged, IsCause, HasToldNext, HasDrained, last_of, left_in};
 
+use crate::left::ToldLeft;
 use crate::waiting::Waiting;
 use std::alloc::Global;
 use std::marker::Model;
 use wg_desk::{Desk, DeskError};
 use wg_told::{
-    ToldAccess, ToldItem, ToldReply, ToldSettlement, ToldUse, access_told, item_told, kept_told,
-    reply_told, settlement_told, use_told,
+    ToldAccess, ToldCounts, ToldItem, ToldReply, ToldSettlement, ToldUse, access_told, item_counts,
+    item_told, kept_told, reply_told, settlement_told, tell_items, use_told,
 };
 use wg_types::commands::{CommandOf, On};
 use wg_types::limits::Limits;
@@ -21,6 +22,16 @@ use wg_types::parts::{AccessKind, Cells, PartRun};
 use wg_types::requests::RequestOf;
 use wg_types::steps::Item;
 use wg_types::usages::Usages;
+
+/// What a drain of many items has done.
+pub enum Drained {
+    /// As many items were told as there was room for, and at least one.
+    Told(ToldCounts),
+    /// There is no room for the next item, which takes so much.
+    Wants(ToldCounts),
+    /// All were told before.
+    Ended,
+}
 
 /// A desk, with the items and the settlements that wait to be told. Of the items those before `told` were.
 #[derive(Drop)]
@@ -159,6 +170,32 @@ impl Inner {
         None
     }
 
+    /// The next items, as many as there is room for. When all are told the list is emptied, and keeps its room.
+    #[tactic(auto, using(crate::proofs::Inside::none_left, crate::proofs::Inside::waits_on, crate::proofs::Inside::told_within, crate::proofs::Inside::told_by))]
+    pub fn next_items(
+        &mut self,
+        items: &mut [ToldItem],
+        uses: &mut [ToldUse],
+        accesses: &mut [ToldAccess],
+    ) -> Drained
+        ensures { HasDrained self.old self.new
+            (record { items = items.old; uses = uses.old; accesses = accesses.old })
+            (record { items = items.new; uses = uses.new; accesses = accesses.new }) result }
+    {
+        let Some(item) = self.items.as_slice().get(self.told) else {
+            self.items.clear();
+            self.told = 0;
+            return Drained::Ended;
+        };
+        let rest = &self.items.as_slice()[self.told..];
+        let counts = tell_items(rest, items, uses, accesses);
+        if counts.items == 0 {
+            return Drained::Wants(item_counts(item));
+        }
+        self.told += counts.items as usize;
+        Drained::Told(counts)
+    }
+
     /// A use of the item that was told last.
     pub fn use_at(&self, at: usize) -> Option<ToldUse>
         ensures { result ≡ option_map use_told (option_and_then (λ item. slice_get (uses_of item) at) (last_of self.now.items self.now.told)) }
@@ -186,5 +223,15 @@ impl Inner {
     {
         let settlement = self.waiting.next()?;
         Some(settlement_told(settlement))
+    }
+
+    /// How much is left to be told. The settlements are let go.
+    pub fn left(&mut self) -> ToldLeft
+        ensures { result ≡ left_in self.old }
+    {
+        ToldLeft {
+            items: (self.items.len() - self.told) as u64,
+            settlements: self.waiting.clear(),
+        }
     }
 }

@@ -15,3 +15,5 @@ pub const NO_PASS: u32 = 5;
 pub const END: u32 = 6;
 
 pub const IS_OPEN: u32 = 7;
+
+pub const NO_ROOM: u32 = 8;

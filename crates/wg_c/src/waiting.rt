@@ -1,5 +1,5 @@
 //! Settlements that wait to be told.
-ghost use Rattle.std.specs.Prelude.{◌≡◌, ◌<◌, ◌++◌, ◌∷◌, [], IfSome, IfNone, OnOk};
+ghost use Rattle.std.specs.Prelude.{◌≡◌, ◌-◌, ◌^◌, ◌<◌, ◌++◌, ◌∷◌, [], length, min, IfSome, IfNone, OnOk};
 
 use std::alloc::Global;
 use std::collections::VecDeque;
@@ -77,5 +77,16 @@ impl Waiting {
             self.current = current;
             self.at = 0;
         }
+    }
+
+    /// Lets go of all. How many these were, or the greatest number where there were more.
+    pub fn clear(&mut self) -> u64
+        ensures { result ≡ min (length self.old.left) (2 ^ 64 - 1) }
+    {
+        let mut count: u64 = 0;
+        while let Some(_settlement) = self.next() {
+            count = count.saturating_add(1);
+        }
+        count
     }
 }

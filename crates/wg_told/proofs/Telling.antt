@@ -1,5 +1,5 @@
 -- What was told is read back, and is what it was: so what is told alike is the same.
-use Rattle.std.proofs.Common.{◌≡◌, ℕ, Bool, true, false, List, [], ◌∷◌, map, length, Option, Some, None, refl, sym, ap, ◌∙◌, nat_eq, if◌then◌else◌}
+use Rattle.std.proofs.Common.{◌≡◌, ℕ, Bool, true, false, List, [], ◌∷◌, map, Option, Some, None, refl, sym, ap, ◌∙◌, nat_eq, if◌then◌else◌}
 use Rattle.wg_trace.specs.declared.parts.Aspect.{Aspect}
 use Rattle.wg_trace.specs.declared.parts.Aspect.TheVariants.{Color, Depth, Stencil}
 use Rattle.wg_trace.specs.declared.parts.PartRun.{PartRun}
@@ -35,7 +35,7 @@ use Rattle.wg_told.specs.declared.items.ToldRange.{ToldRange}
 use Rattle.wg_told.specs.declared.items.ToldItem.{ToldItem}
 use Rattle.wg_told.specs.declared.items.ToldUse.{ToldUse}
 use Rattle.wg_told.specs.declared.items.ToldAccess.{ToldAccess}
-use Rattle.wg_told.specs.Replies.{flag_number, fault_kind_number, answer_number, number_told, valid_number, fault_number, rule_number, caught_number, scope_number, is_caught, scope_of, how_number, how_fault, how_rule, reply_told, settlement_told}
+use Rattle.wg_told.specs.Replies.{flag_number, fault_kind_number, fault_number, rule_number, caught_number, scope_number, is_caught, scope_of, how_number, how_fault, how_rule, reply_told, settlement_told}
 use Rattle.wg_told.specs.Items.{aspect_number, part_told, cells_told, sort_number, name_number, kind_number, from_told, fresh_told, host_told, place_told, item_told, use_told, access_told, uses_of, accesses_of}
 use Rattle.wg_told.specs.Laws.{ItemsToldApart, SettlementsToldApart, RepliesToldApart}
 

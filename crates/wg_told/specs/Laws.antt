@@ -1,16 +1,22 @@
 -- Nothing is lost in what is told: what is told alike is the same.
-use Rattle.std.specs.Prelude.{◌≡◌, ℕ, map}
+use Rattle.std.specs.Prelude.{◌≡◌, ℕ, List, map}
 use Rattle.wg_trace.specs.declared.replies.Reply.{Reply}
 use Rattle.wg_trace.specs.declared.replies.Settlement.{Settlement}
 use Rattle.wg_trace.specs.declared.steps.Item.{Item}
 use Rattle.wg_told.specs.Replies.{reply_told, settlement_told}
 use Rattle.wg_told.specs.Items.{item_told, use_told, access_told, uses_of, accesses_of}
+use Rattle.wg_told.specs.Drains.{items_told, uses_told, accesses_told}
 
 -- two items that are told alike, with their uses and accesses
 abbrev pub ItemsToldApart : Type 0
 ItemsToldApart =
     (a b : Item) → item_told a ≡ item_told b → map use_told (uses_of a) ≡ map use_told (uses_of b)
     → map access_told (accesses_of a) ≡ map access_told (accesses_of b) → a ≡ b
+
+-- two lists of items that are told alike, item after item, with all their uses and all their accesses
+abbrev pub ListsToldApart : Type 0
+ListsToldApart =
+    (one other : List Item) → items_told one ≡ items_told other → uses_told one ≡ uses_told other → accesses_told one ≡ accesses_told other → one ≡ other
 
 -- two settlements that are told alike
 abbrev pub SettlementsToldApart : Type 0

@@ -1,4 +1,5 @@
 pub mod Asked
+pub mod Drains
 pub mod Flats
 pub mod Items
 pub mod Laws

@@ -1,9 +1,14 @@
 //! The laws of what is told, as the contracts of functions that do nothing.
-ghost use Rattle.wg_told.specs.Laws.{ItemsToldApart, RepliesToldApart, SettlementsToldApart};
+ghost use Rattle.wg_told.specs.Laws.{ItemsToldApart, ListsToldApart, RepliesToldApart, SettlementsToldApart};
 
 /// Two items that are told alike, with their uses and accesses, are the same.
 pub fn items_told_apart()
     ensures { ItemsToldApart }
+{}
+
+/// Two lists of items that are told alike, item after item, with all their uses and all their accesses, are the same.
+pub fn lists_told_apart()
+    ensures { ListsToldApart }
 {}
 
 /// Two settlements that are told alike are the same.

@@ -1,7 +1,7 @@
 //! A device, which is open as long as it lives.
 
 use crate::raw;
-use crate::told::{self, Error, Item, Reply, Settlement};
+use crate::told::{self, Error, Item, Left, Reply, Settlement};
 use crate::values::*;
 use std::ptr;
 use std::sync::atomic::{AtomicU64, Ordering};
@@ -19,6 +19,67 @@ pub struct Device {
 /// What lies behind the pointer belongs to the device alone, and the interface lets it be used by any thread, one at a time. It may not
 /// be shared: the pointer has it that a device is not `Sync`.
 unsafe impl Send for Device {}
+
+/// Arrays that a device fills.
+struct Room {
+    items: Vec<raw::Item>,
+    uses: Vec<raw::Use>,
+    accesses: Vec<raw::Access>,
+}
+
+impl Room {
+    /// Room for so many of each, to begin with.
+    const FIRST: usize = 64;
+
+    fn new() -> Room {
+        Room {
+            items: vec![raw::Item::default(); Room::FIRST],
+            uses: vec![raw::Use::default(); Room::FIRST],
+            accesses: vec![raw::Access::default(); Room::FIRST],
+        }
+    }
+
+    /// Has the arrays filled with the next items.
+    ///
+    /// # Safety
+    ///
+    /// As any call of the interface: no other call is made on the device meanwhile.
+    unsafe fn next(&mut self, device: *mut raw::Device, counts: *mut raw::Counts) -> u32 {
+        let (items, uses, accesses) = (&mut self.items, &mut self.uses, &mut self.accesses);
+        raw::wethlorn_next_items(
+            device,
+            items.as_mut_ptr(),
+            items.len(),
+            uses.as_mut_ptr(),
+            uses.len(),
+            accesses.as_mut_ptr(),
+            accesses.len(),
+            counts,
+        )
+    }
+
+    /// Takes room for an item that there was none for.
+    fn grow(&mut self, wanted: &raw::Counts) {
+        self.uses
+            .resize(self.uses.len().max(wanted.uses as usize), raw::Use::default());
+        self.accesses
+            .resize(self.accesses.len().max(wanted.accesses as usize), raw::Access::default());
+    }
+
+    /// Adds the items that the arrays were filled with.
+    fn tell(&self, counts: &raw::Counts, all: &mut Vec<Item>) {
+        let (mut uses, mut accesses) = (self.uses.iter(), self.accesses.iter());
+        for item in &self.items[..counts.items as usize] {
+            let own_uses = uses.by_ref().take(item.uses as usize).map(told::told_use).collect();
+            let own_accesses = accesses
+                .by_ref()
+                .take(item.accesses as usize)
+                .map(told::told_access)
+                .collect();
+            all.push(told::item(item, own_uses, own_accesses));
+        }
+    }
+}
 
 /// The reply to a call, or why it was not made.
 fn told(call: impl FnOnce(&mut raw::Reply) -> u32) -> Result<Reply, Error> {
@@ -75,6 +136,19 @@ impl Device {
             all.push(told::told_access(&one));
         }
         all
+    }
+
+    /// All items of the trace that were not told. They come from the device by many in a call.
+    pub fn items(&mut self) -> Vec<Item> {
+        let (mut all, mut room) = (Vec::new(), Room::new());
+        loop {
+            let mut counts = raw::Counts::default();
+            match unsafe { room.next(&mut self.raw, &mut counts) } {
+                told::OK => room.tell(&counts, &mut all),
+                told::NO_ROOM => room.grow(&counts),
+                _ => return all,
+            }
+        }
     }
 
     /// The next promise that was settled and was not told, or none.
@@ -473,10 +547,28 @@ impl Device {
     }
 }
 
+/// The version of the library, as 10,000 times the major number, 100 times the minor number, and the last number.
+pub fn version() -> u32 {
+    unsafe { raw::wethlorn_version() }
+}
+
+impl Device {
+    /// Closes the device. How many items and settlements were not told, and are lost.
+    pub fn close(mut self) -> Left {
+        self.shut()
+    }
+
+    fn shut(&mut self) -> Left {
+        let mut left = raw::Left::default();
+        // A device that was closed, or was not opened for want of memory, is not there to be closed, and nothing of it is left.
+        unsafe { raw::wethlorn_close(&mut self.raw, &mut left) };
+        told::left(&left)
+    }
+}
+
 /// Closes the device. Items and settlements that were not told are lost.
 impl Drop for Device {
     fn drop(&mut self) {
-        // A device that was not opened, for want of memory, is not there to be closed.
-        unsafe { raw::wethlorn_close(&mut self.raw) };
+        self.shut();
     }
 }

@@ -31,8 +31,8 @@ mod raw;
 mod told;
 mod values;
 
-pub use device::Device;
+pub use device::{version, Device};
 pub use told::{
-    Access, Answer, Aspect, Cells, Error, Fault, FaultKind, How, Item, Part, Place, Reply, Settlement, StepName, Use,
+    Access, Answer, Aspect, Cells, Error, Fault, FaultKind, How, Item, Left, Part, Place, Reply, Settlement, StepName, Use,
 };
 pub use values::*;

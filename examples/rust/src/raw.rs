@@ -72,9 +72,25 @@ pub struct Access {
     pub kind: u32,
 }
 
+#[repr(C)]
+#[derive(Clone, Copy, Default)]
+pub struct Left {
+    pub items: u64,
+    pub settlements: u64,
+}
+
+#[repr(C)]
+#[derive(Clone, Copy, Default)]
+pub struct Counts {
+    pub items: u64,
+    pub uses: u64,
+    pub accesses: u64,
+}
+
 extern "C" {
+    pub fn wethlorn_version() -> u32;
     pub fn wethlorn_open(budget: u64, serial: u64, limits: *const Limit, limits_count: usize, device: *mut Device) -> u32;
-    pub fn wethlorn_close(device: *mut Device) -> u32;
+    pub fn wethlorn_close(device: *mut Device, out: *mut Left) -> u32;
     pub fn wethlorn_create_buffer(device: *mut Device, who: u32, desc: *const BufferDesc, out: *mut Reply) -> u32;
     pub fn wethlorn_create_texture(device: *mut Device, who: u32, desc: *const TextureDesc, out: *mut Reply) -> u32;
     pub fn wethlorn_create_view(device: *mut Device, who: u32, texture: u64, desc: *const ViewDesc, out: *mut Reply) -> u32;
@@ -329,6 +345,16 @@ extern "C" {
         out: *mut Reply,
     ) -> u32;
     pub fn wethlorn_next_item(device: *mut Device, out: *mut Item) -> u32;
+    pub fn wethlorn_next_items(
+        device: *mut Device,
+        items: *mut Item,
+        items_count: usize,
+        uses: *mut Use,
+        uses_count: usize,
+        accesses: *mut Access,
+        accesses_count: usize,
+        out: *mut Counts,
+    ) -> u32;
     pub fn wethlorn_item_use(device: *mut Device, at: usize, out: *mut Use) -> u32;
     pub fn wethlorn_item_access(device: *mut Device, at: usize, out: *mut Access) -> u32;
     pub fn wethlorn_next_settlement(device: *mut Device, out: *mut Settlement) -> u32;

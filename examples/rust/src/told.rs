@@ -33,6 +33,7 @@ impl fmt::Display for Error {
 impl std::error::Error for Error {}
 
 pub(crate) const OK: u32 = 0;
+pub(crate) const NO_ROOM: u32 = 8;
 
 pub(crate) fn error(status: u32) -> Error {
     match status {
@@ -130,6 +131,20 @@ pub(crate) fn reply(it: &raw::Reply) -> Reply {
         answer,
         fault,
         settles: it.settles,
+    }
+}
+
+/// What was not told of a device that was closed.
+#[derive(Clone, Copy, Debug, PartialEq, Eq)]
+pub struct Left {
+    pub items: u64,
+    pub settlements: u64,
+}
+
+pub(crate) fn left(it: &raw::Left) -> Left {
+    Left {
+        items: it.items,
+        settlements: it.settlements,
     }
 }
 

@@ -115,3 +115,53 @@ fn values_out_of_range_are_errors() {
     }];
     assert_eq!(Device::open(1024, &limits).err(), Some(Error::BadValue));
 }
+
+#[test]
+fn a_close_tells_what_was_not_drained() {
+    let mut device = Device::open(1024, &[]).unwrap();
+    let buffer = device.create_buffer(ME, &DESC).unwrap().object().unwrap();
+    device.drop_object(ME, buffer).unwrap();
+    device.push_error_scope(ME, FILTER_VALIDATION).unwrap();
+    device.pop_error_scope(ME).unwrap();
+    assert_eq!(
+        device.close(),
+        Left {
+            items: 1,
+            settlements: 1
+        }
+    );
+    assert_eq!(
+        Device::open(1024, &[]).unwrap().close(),
+        Left {
+            items: 0,
+            settlements: 0
+        }
+    );
+}
+
+#[test]
+fn the_library_is_of_the_version_of_the_crate() {
+    let numbers = VERSION.split('.').map(|part| part.parse::<u32>().unwrap());
+    assert_eq!(
+        version(),
+        numbers.zip([10_000, 100, 1]).map(|(number, weight)| number * weight).sum()
+    );
+}
+
+#[test]
+fn all_items_are_those_that_are_told_one_by_one() {
+    let played = |count: u64| {
+        let mut device = Device::open(1 << 20, &[]).unwrap();
+        for _ in 0..count {
+            let buffer = device.create_buffer(ME, &DESC).unwrap().object().unwrap();
+            device.write_buffer(ME, buffer, 4, 8).unwrap();
+        }
+        device
+    };
+    for count in [0, 1, 200] {
+        let mut device = played(count);
+        let singly: Vec<Item> = std::iter::from_fn(|| device.next_item()).collect();
+        assert!(singly.len() as u64 >= count);
+        assert_eq!(played(count).items(), singly);
+    }
+}

@@ -1,0 +1,7 @@
+use Rattle.std.proofs.Common.{◌≡◌, map, take}
+use Rattle.wg_told.specs.Items.{use_told}
+use Rattle.wg_told.specs.Drains.{over}
+use Rattle.wg_told.proofs.drains.put_own_uses.Given as goal
+
+abbrev pub invariant-loop-index : goal.invariant-loop-index
+invariant-loop-index l = l.out ≡ over (map use_told (take l.index l.uses)) l.initial.out
