@@ -22,7 +22,6 @@ use Rattle.wg_desk.specs.Sent.{event_sent, seats_after}
 use Rattle.wg_told.specs.declared.replies.ToldReply.{ToldReply}
 use Rattle.wg_told.specs.declared.replies.ToldSettlement.{ToldSettlement}
 use Rattle.wg_told.specs.Replies.{reply_told, kept_told, settlement_told}
-use Rattle.wg_told.specs.declared.drains.ToldCounts.{ToldCounts}
 use Rattle.wg_told.specs.declared.items.ToldItem.{ToldItem}
 use Rattle.wg_told.specs.declared.items.ToldUse.{ToldUse}
 use Rattle.wg_told.specs.declared.items.ToldAccess.{ToldAccess}

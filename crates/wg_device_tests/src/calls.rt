@@ -171,7 +171,7 @@ fn finished<R: Wait>(
     pass: &mut DevicePass,
     mut recorder: Recorder,
 ) -> Result<(Handle, Reply), NoMemory>
-    requires pass { IsPassOf device.now.lock pass.old × (calls_of pass.old < 100) }
+    requires pass { IsPassOf device.now.lock pass.old × (calls_of pass.old < 101) }
     requires opened { is_some recorder.encoder ≡ true }
     ensures { IsPassOf device.now.lock pass.new × (calls_of pass.new ≤ calls_of pass.old + 1) }
 {
@@ -180,7 +180,7 @@ fn finished<R: Wait>(
 
 /// Submits the commands of an encoder, which are none.
 fn submission<R: Wait>(rt: &R, device: &Device, pass: &mut DevicePass) -> Option<Answer>
-    requires { IsPassOf device.now.lock pass.old × (calls_of pass.old < 90) }
+    requires { IsPassOf device.now.lock pass.old × (calls_of pass.old < 100) }
     ensures { IsPassOf device.now.lock pass.new × (calls_of pass.new ≤ calls_of pass.old + 3) }
 {
     let (recorder, _, _) = device.create_encoder(rt, pass).ok()?;
