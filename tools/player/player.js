@@ -1,22 +1,17 @@
 // Plays scripts by the browser's own WebGPU, and tells what it answered.
 //
-// A play is { calls, limits, scopes, uncaught }, of which the calls are as tools/wgsim/hunting/translation.py has them. It is played with error
-// scopes around each call that the core refuses, and around each run of calls that it takes, and without the script's own scopes. Where a
-// run has an error it is played again with scopes around each call that may make one, so that each error is known with its call. Where the
-// script has scopes of its own (`scopes`) it is played with those alone besides, so that it is seen which of them catches what: `uncaught`
-// errors are then waited for, which reach none. Nothing is waited for but what the script waits for, so that what is asked for stays asked
-// for until then.
+// A play is { calls, limits, scopes, uncaught }, of which the calls are as tools/wgsim/hunting/translation.py has them. It is played once with
+// error scopes around each call that may make an error, so that each error is known with its call, and without the script's own scopes; and,
+// where it has such (`scopes`), a second time with those alone, so that it is seen which of them catches what: `uncaught` errors are then
+// waited for, which reach none. Nothing is waited for but what the script waits for, so that what is asked for stays asked for until then.
 'use strict';
 
 // How long one promise is waited for, the work of the queue, and errors that reach no scope, in milliseconds.
 let LONGEST = 4000, QUEUE = 20000, STRAYS = 400;
 const MOST_BYTES = 1 << 25;
 const CONSTRUCTORS = { validation: 'GPUValidationError', 'out-of-memory': 'GPUOutOfMemoryError', internal: 'GPUInternalError' };
-const FILTERS = Object.keys(CONSTRUCTORS);
-// Where error scopes stand: around runs of calls, around each call, or where the script has them.
-const RUNS = 'runs', EACH = 'each', OWN = 'own';
 
-const kindOf = error => FILTERS.find(kind => error instanceof globalThis[CONSTRUCTORS[kind]]) || String(error);
+const kindOf = error => Object.keys(CONSTRUCTORS).find(kind => error instanceof globalThis[CONSTRUCTORS[kind]]) || String(error);
 const thrown = error => `${error && error.name}: ${error && error.message}`;
 const wait = milliseconds => new Promise(done => setTimeout(done, milliseconds));
 // What a promise comes to, or the word `late` where it comes to nothing in time.
@@ -56,11 +51,9 @@ async function deviceFor(limits) {
 }
 
 class Playing {
-  // One way through the calls of a script, by where error scopes stand.
-  constructor(held, calls, where, uncaught = 0) {
-    Object.assign(this, { held, device: held.device, calls, where, uncaught, answers: {}, open: [], promises: {}, isLost: false });
-    // Whether the scopes of a run are open, and whether those of some run caught an error.
-    Object.assign(this, { isRun: false, isOther: false });
+  // One way through the calls of a script: `isWatched` with scopes around the calls, and else with the script's own.
+  constructor(held, calls, isWatched, uncaught = 0) {
+    Object.assign(this, { held, device: held.device, calls, isWatched, uncaught, answers: {}, open: [], promises: {}, modules: {}, isLost: false });
     this.objects = { device: held.device, queue: held.device.queue };
     this.words = Object.fromEntries(calls.map(call => [call.n, call.do]));
     held.stray = [];
@@ -94,33 +87,9 @@ class Playing {
     }
   }
 
-  // Scopes around this call and those that follow, up to what ends the run.
-  begin() {
-    if (this.isRun) return;
-    this.isRun = true;
-    for (const filter of FILTERS) this.device.pushErrorScope(filter);
-  }
-
-  end() {
-    if (!this.isRun) return;
-    this.isRun = false;
-    for (const _ of FILTERS) this.open.push(this.device.popErrorScope().then(error => { if (error) this.isOther = true; }, () => {}));
-  }
-
-  // Does what a call does, inside of the scopes that stand around it.
-  watched(call, filters, note, act) {
-    if (this.where === OWN || !filters) return act();
-    if (this.where === RUNS && !call.fault) {
-      this.begin();
-      return act();
-    }
-    this.end();
-    return this.watch(filters, note, act);
-  }
-
   module(call) {
     const make = () => this.device.createShaderModule({ code: call.code });
-    return this.watched(call, ['validation'], told => { this.answer(call.n).shader = told.message || told.scope; }, make);
+    return this.isWatched ? this.watch(['validation'], told => { this.answer(call.n).shader = told.message || told.scope; }, make) : make();
   }
 
   make(call) {
@@ -132,8 +101,8 @@ class Playing {
       on.context = on.context || on.canvas.getContext('webgpu');
       on = on.context;
     }
-    const args = this.value(call.args);
-    return this.watched(call, call.watch, told => Object.assign(this.answer(call.n), told), () => on[call.method](...args));
+    const args = this.value(call.args), act = () => on[call.method](...args);
+    return call.watch && this.isWatched ? this.watch(call.watch, told => Object.assign(this.answer(call.n), told), act) : act();
   }
 
   // The texture of a canvas expires; of an empty canvas no image can be made.
@@ -147,8 +116,7 @@ class Playing {
   }
 
   call(call) {
-    if (this.where !== OWN && /ErrorScope$/.test(call.do)) return;
-    if (call.do === 'lose') this.end();
+    if (this.isWatched && /ErrorScope$/.test(call.do)) return;
     try {
       const made = this.make(call);
       if (call.as) this.objects[call.as] = made;
@@ -178,14 +146,12 @@ class Playing {
 
   async run() {
     for (const call of this.calls) {
-      if (call.wait || call.do === 'complete') this.end();
       if (call.do === 'complete') await inTime(this.held.isLost ? null : this.device.queue.onSubmittedWorkDone(), QUEUE);
       else this.call(call);
       for (const n of call.wait || []) {
         if (this.promises[n] && await inTime(this.promises[n]) === 'late') this.answer(n).isLate = true;
       }
     }
-    this.end();
     if (!this.isLost && !this.held.isLost && await inTime(this.device.queue.onSubmittedWorkDone().then(() => 'done', () => 'done'), QUEUE) === 'late') this.isHung = true;
     await inTime(Promise.all(this.open));
     await inTime(Promise.all(Object.values(this.promises)));
@@ -204,23 +170,21 @@ class Playing {
       if (object && object.context) object.context.unconfigure();
     }
     const left = this.calls.filter(call => call.do === 'pushErrorScope').length;
-    if (this.where === OWN) for (let n = 0; n < left; n++) if (await this.device.popErrorScope().then(() => false, () => true)) break;
+    if (!this.isWatched) for (let n = 0; n < left; n++) if (await this.device.popErrorScope().then(() => false, () => true)) break;
   }
 }
 class Missing extends Error {}
 
 async function one({ calls, limits, scopes, uncaught }) {
   let held;
-  const played = async (where, uncaught) => {
-    if (held.isLost) held = await deviceFor(limits);
-    const playing = new Playing(held, calls, where, uncaught), told = await playing.run();
-    await playing.free();
-    return { told, isOther: playing.isOther };
-  };
   try { held = await deviceFor(limits); } catch (error) { return { none: thrown(error) }; }
-  let { told, isOther } = await played(RUNS);
-  if (isOther && !told.lost && !told.hung) ({ told } = await played(EACH));
-  if (scopes && !told.lost && !told.hung) told.own = (await played(OWN, uncaught)).told;
+  const first = new Playing(held, calls, true), told = await first.run();
+  await first.free();
+  if (!scopes || told.lost || told.hung) return over(held, told);
+  if (held.isLost) held = await deviceFor(limits);
+  const second = new Playing(held, calls, false, uncaught);
+  told.own = await second.run();
+  await second.free();
   return over(held, told);
 }
 function over(held, told) {

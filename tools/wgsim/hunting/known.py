@@ -167,6 +167,12 @@ def has_destroyed_queries(difference: Difference) -> bool:
     return any(call["do"] == "destroy" and call["object"] in sets for call in before(difference))
 
 
+def has_empty_copy(difference: Difference) -> bool:
+    """Whether something copies texels to or from a texture, and none of them."""
+    copies = [call for call in before(difference) if re.match("copy.*Texture", call["do"])]
+    return any(0 in call["size"] for call in copies)
+
+
 def has_visibility(difference: Difference) -> bool:
     """Whether the visibility of an entry has a bit of 32 or more."""
     entries = [entry for call in difference.script if call["do"] == "createBindGroupLayout" for entry in call["entries"]]
@@ -194,6 +200,6 @@ TESTS = {
     for each in (
         is_served, is_texel_buffer, is_lost, is_encoder_refused, names_destroyed, has_canvas, has_pass, follows_map,
         has_depth_color, has_deep_resolve, has_null_targets, has_visibility, has_no_bundle, is_fewer,
-        has_destroyed_queries,
+        has_destroyed_queries, has_empty_copy,
     )
 }

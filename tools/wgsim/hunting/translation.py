@@ -5,7 +5,7 @@ A translated call is a dict that is handed to the page as it is, and from which 
     on       the name of what it is called on: an object of the script, `device`, `queue`, or a canvas; with `method` and `args`
     as       the name of what it gives
     code     the text of the shader of a pipeline; `module` stands in its arguments
-    watch    the filters of the error scopes around it: none of a command that is not late; `fault` where the core refuses it
+    watch    the filters of the error scopes around it: none of a command that is not late
     promise  it gives a promise; `wait` has the calls whose promises are waited for after it
 An argument {"$": NAME} is the object of a name, and {"bytes": N} so many bytes of zeros.
 """
@@ -54,8 +54,6 @@ def translated(answered: Answered) -> list[dict[str, Any]]:
             continue
         if entry is not None and call["do"] not in SCOPES:
             told["watch"] = watched(call["do"])
-            if entry.fault is not None:
-                told["fault"] = True
         if entry is not None and entry.answer == ["promise"]:
             told["promise"] = True
         # What waits lets the queue go on, so that a map that is to stay pending would come true.
