@@ -167,6 +167,11 @@ def has_destroyed_queries(difference: Difference) -> bool:
     return any(call["do"] == "destroy" and call["object"] in sets for call in before(difference))
 
 
+def has_odd_index(difference: Difference) -> bool:
+    """Whether indices are set from an offset that is no multiple of 4."""
+    return any(call["offset"] % 4 for call in difference.script if call["do"] == "setIndexBuffer")
+
+
 def has_empty_copy(difference: Difference) -> bool:
     """Whether something copies texels to or from a texture, and none of them."""
     copies = [call for call in before(difference) if re.match("copy.*Texture", call["do"])]
@@ -200,6 +205,6 @@ TESTS = {
     for each in (
         is_served, is_texel_buffer, is_lost, is_encoder_refused, names_destroyed, has_canvas, has_pass, follows_map,
         has_depth_color, has_deep_resolve, has_null_targets, has_visibility, has_no_bundle, is_fewer,
-        has_destroyed_queries, has_empty_copy,
+        has_destroyed_queries, has_empty_copy, has_odd_index,
     )
 }
