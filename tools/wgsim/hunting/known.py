@@ -127,6 +127,11 @@ def has_canvas(difference: Difference) -> bool:
     return any(call["do"] == "currentTexture" for call in before(difference))
 
 
+def has_configured(difference: Difference) -> bool:
+    """Whether a canvas was configured before."""
+    return any(call["do"] == "configureCanvas" for call in before(difference))
+
+
 def has_pass(difference: Difference) -> bool:
     """Whether what is submitted came of an encoder on which a pass was begun."""
     ended = {call["as"]: call["on"] for call in before(difference) if call["do"] == "finish"}
@@ -205,6 +210,6 @@ TESTS = {
     for each in (
         is_served, is_texel_buffer, is_lost, is_encoder_refused, names_destroyed, has_canvas, has_pass, follows_map,
         has_depth_color, has_deep_resolve, has_null_targets, has_visibility, has_no_bundle, is_fewer,
-        has_destroyed_queries, has_empty_copy, has_odd_index,
+        has_destroyed_queries, has_empty_copy, has_odd_index, has_configured,
     )
 }
