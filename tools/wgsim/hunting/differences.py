@@ -126,6 +126,16 @@ class Compared:
         self.tainted |= {call["as"]} if "as" in call else shape.names_in(call)
         if call["do"] == "currentTexture":
             self.tainted.add(call["canvas"])
+        if call["do"] == "configureCanvas":
+            self.tainted |= self.of_canvas(call["canvas"])
+
+    def of_canvas(self, canvas: str) -> set[str]:
+        """What a canvas gives, and what is made of that: a configure that differs expires another texture, or none."""
+        found = {canvas}
+        for call in self.answered.flat.calls:
+            if shape.names_in(call) & found:
+                found |= {call[key] for key in ("as", "on") if key in call}
+        return found
 
     def errors(self, number: int, call: dict[str, Any], fault: Any, answer: dict[str, Any]) -> Iterator[Difference]:
         """Whether both refuse a call, or both take it."""
