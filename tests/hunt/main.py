@@ -3,9 +3,8 @@
 usage: tests/hunt/run [--program PATH] [--scripts N]
 
 The engine that lies answers by the second reading (tests/hunt/liar.py). Where Chromium is installed, one that lies is hunted too
-(tests/hunt/lying_browser), and then itself with N scripts, 2000, or as many as two minutes have; what is found of it is told, and is no
-finding of the test unless its own files are wrong. Where it is not installed that is said. Prints a line for each finding, and fails if
-there is one. """
+(tests/hunt/lying_browser), and then itself with N scripts, 2000; what is found of it is told, and is no finding of the test unless its
+own files are wrong. Where it is not installed that is said. Prints a line for each finding, and fails if there is one."""
 
 import argparse
 import collections
@@ -238,9 +237,14 @@ def test_lying_browser(folder):
 
 
 def test_browser(folder, scripts):
-    """The browser that is installed is hunted for two minutes at most; what is found is told."""
-    until = ("--scripts", scripts) if scripts < 2000 else ("--minutes", 2)
-    out, _ = wgsim("hunt", *until, "--out", folder / "browser", status=(0, 1))
+    """The browser that is installed is hunted; what is found is told, and each script is accounted for."""
+    out, _ = wgsim("hunt", "--scripts", scripts, "--from", "tests/cases", "--out", folder / "browser", status=(0, 1))
+    state = state_of(folder / "browser")
+    check(state["next"] == scripts, f"{scripts} scripts were to be played, and the hunt is at {state['next']}")
+    played = state["counts"]["scripts"] + state["left"].get(hunter.REFUSED, 0)
+    check(played == scripts, f"of {scripts} scripts {played} were played or refused")
+    for row in state["found"].values():
+        check({path.name for path in (folder / "browser" / row["name"]).iterdir()} == FILES, f"{row['name']} has not the files {FILES}")
     print("notice: " + "; ".join(line for line in out.splitlines()[-1:]))
 
 

@@ -6,7 +6,8 @@
 // waited for, which reach none. Nothing is waited for but what the script waits for, so that what is asked for stays asked for until then.
 'use strict';
 
-let LONGEST = 4000, QUEUE = 20000;       // how long one promise is waited for, and the work of the queue, in milliseconds
+// How long one promise is waited for, the work of the queue, and errors that reach no scope, in milliseconds.
+let LONGEST = 4000, QUEUE = 20000, STRAYS = 400;
 const MOST_BYTES = 1 << 25;
 const CONSTRUCTORS = { validation: 'GPUValidationError', 'out-of-memory': 'GPUOutOfMemoryError', internal: 'GPUInternalError' };
 
@@ -155,7 +156,7 @@ class Playing {
     await inTime(Promise.all(this.open));
     await inTime(Promise.all(Object.values(this.promises)));
     await wait(0);
-    for (let n = 0; n < 40 && this.held.stray.length < this.uncaught; n++) await wait(10);
+    for (let n = 0; n < STRAYS && this.held.stray.length < this.uncaught; n += 10) await wait(10);
     const { stray } = this.held;
     this.held.stray = null;
     return { answers: this.answers, stray, ...(this.held.isLost && !this.isLost ? { lost: this.held.lost || 'it is lost' } : {}), ...(this.isHung ? { hung: true } : {}) };
@@ -196,7 +197,7 @@ function over(held, told) {
 
 // Plays several scripts at once, and returns what was answered to each. All is waited for `patience` times as long.
 async function play(plays, patience = 1) {
-  [LONGEST, QUEUE] = [4000 * patience, 20000 * patience];
+  [LONGEST, QUEUE, STRAYS] = [4000 * patience, 20000 * patience, 400 * patience];
   return JSON.stringify(await Promise.all(plays.map(one)));
 }
 async function about() {

@@ -126,6 +126,16 @@ class Compared:
         self.tainted |= {call["as"]} if "as" in call else shape.names_in(call)
         if call["do"] == "currentTexture":
             self.tainted.add(call["canvas"])
+        if call["do"] == "configureCanvas":
+            self.tainted |= self.of_canvas(call["canvas"])
+
+    def of_canvas(self, canvas: str) -> set[str]:
+        """What a canvas gives, and what is made of that: a configure that differs expires another texture, or none."""
+        found = {canvas}
+        for call in self.answered.flat.calls:
+            if shape.names_in(call) & found:
+                found |= {call[key] for key in ("as", "on") if key in call}
+        return found
 
     def errors(self, number: int, call: dict[str, Any], fault: Any, answer: dict[str, Any]) -> Iterator[Difference]:
         """Whether both refuse a call, or both take it."""
@@ -139,7 +149,7 @@ class Compared:
             yield Difference(OTHER_ALONE, number, call["do"], core, other, None, message)
         elif not has_failed:
             yield Difference(CORE_ALONE, number, call["do"], core, other, rule, answer.get("reason", ""))
-        elif not is_same(fault, answer):
+        elif not is_same(fault, self.answered.whole[number], answer):
             yield Difference(KIND, number, call["do"], core, other, rule, message)
         elif "caught" in answer and "error" in answer and answer["caught"] != fault[2]:
             yield Difference(SCOPE, number, call["do"], core, other, rule)
@@ -214,9 +224,12 @@ def is_thrown(fault: Any, call: dict[str, Any]) -> bool:
     return fault[1] in THROWS and (call["do"] != "writeBuffer" or call["size"] % 4 != 0)
 
 
-def is_same(fault: Any, answer: dict[str, Any]) -> bool:
-    """Whether an error is that of the core: thrown where the standard throws, and else of its kind."""
-    return fault[1] in THROWS if "throws" in answer else fault[0] == answer["error"]
+def is_same(fault: Any, call: dict[str, Any], answer: dict[str, Any]) -> bool:
+    """Whether an error is that of the core: thrown where the standard throws, and else of its kind. An engine, which says what caught an
+    error, throws nothing."""
+    if is_thrown(fault, call) and "caught" not in answer:
+        return "throws" in answer
+    return "throws" not in answer and fault[0] == answer["error"]
 
 
 def said_of_core(fault: Any) -> str:

@@ -15,6 +15,9 @@ from .core import MOST, Answered, Core, Flat
 MEMORY = 2**24
 # How many threads or vertices a command may have that is carried out: more take a driver on a processor too long.
 MOST_RUNS = 2**16
+# The usages by which a buffer is mapped, and from what size on a page has no memory for one that may be; below that it takes the memory when
+# the buffer is made, also of one that is refused.
+MAPS, MOST_MAPPED = 3, 2**31
 # How many pixels a canvas has on a side at most: browsers take no more, or none of that.
 MOST_PIXELS = 2**31 - 1
 DROP, OUT_OF_MEMORY, LARGE, LONG, INTERFACE, FRAME, CANVAS = (
@@ -76,6 +79,8 @@ def unplayable(calls: list[dict[str, Any]]) -> dict[int, str]:
             found[number] = DROP
         elif max(call.get("size", 0) if call["do"] == "writeBuffer" else 0, call.get("dataSize", 0)) > MEMORY:
             found[number] = LARGE
+        elif call["do"] == "createBuffer" and (call.get("mapped") or call["usage"] & MAPS) and MEMORY < call["size"] < MOST_MAPPED:
+            found[number] = OUT_OF_MEMORY
         elif call["do"] in ("createComputePipeline", "createRenderPipeline") and not shaders.can_say(call):
             found[number] = INTERFACE
         elif call["do"] == "createCanvas" and max(call["width"], call["height"]) > MOST_PIXELS:

@@ -19,6 +19,7 @@ from .sources import Source
 # How often what is left of a script is played without what differed.
 MOST_ROUNDS = 3
 LIMITS, SHADERS, REFUSED = "limits that the adapter lacks", "shaders that the browser refuses", "scripts that are refused"
+ENDS = "calls by which the browser ends, as is known"
 ALIGNMENTS = {limit.name for limit in limits.TABLE.values() if limit.is_alignment}
 
 
@@ -71,11 +72,20 @@ class Hunter:
             left: collections.Counter[str] = collections.Counter()
             flat = flattened(self.core, top, random.Random(number))
             answered = playable(self.core, flat, left) if flat is not None else None
+            answered = self.ended_by_none(answered, left) if answered is not None else None
             self.done.left.update(left)
             if answered is not None and answered.entry_of:
                 yield Made(number, told, answered)
             else:
                 self.done.left[REFUSED] += 1
+
+    def ended_by_none(self, answered: Answered, left: collections.Counter[str]) -> Answered | None:
+        """A script without the calls by which what plays it is known to end."""
+        gone = self.known.ends(answered.whole)
+        if not gone:
+            return answered
+        left[ENDS] += len(gone)
+        return self.core.answered(Flat(shape.without(answered.flat.calls, gone), answered.flat.limits))
 
     def lowered(self, asked: dict[str, int]) -> dict[str, int]:
         """Limits that a script asks for, as far as the other offers them."""
@@ -119,12 +129,12 @@ class Hunter:
         self.tell(Found(*self.small(made.answered, difference), made.number, made.source, True))
 
     def small(self, answered: Answered, difference: Difference) -> tuple[Answered, Difference]:
-        """The smallest script that was found which shows a difference, and the difference as it is there."""
+        """The smallest script that was found which shows a difference, and the difference as it is there: not one that is known."""
         key, found = difference.key(), {answered: difference}
 
         def shows(scripts: list[Answered]) -> list[bool]:
             for one, told in zip(scripts, self.other.each(scripts)):
-                same = [each for each in differences_of(one, told) if each.key() == key]
+                same = [each for each in differences_of(one, told) if each.key() == key and self.known.row(each) is None]
                 if same:
                     found[one] = same[0]
             return [one in found for one in scripts]

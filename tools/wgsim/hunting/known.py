@@ -10,7 +10,7 @@ from typing import Any
 from wgsim import TOP
 
 from . import shape
-from .differences import SHORT, Difference
+from .differences import GONE, SHORT, Difference
 
 FILE = TOP / "tools/known.json"
 
@@ -32,6 +32,11 @@ class Known:
         """The row of a difference, or None where it is not known."""
         return next((row for row in self.rows if fits(row, difference)), None)
 
+    def ends(self, script: list[dict[str, Any]]) -> set[int]:
+        """The numbers of the calls by which the browser ends, as is known."""
+        rows = [row for row in self.rows if "by" in row]
+        return {number for number, call in enumerate(script) for row in rows if call["do"] in row["by"] and is_end(row, script, call)}
+
 
 def is_of(row: dict[str, Any], family: str, number: int) -> bool:
     """Whether a row is of a browser: of every one, or of one of a name, from a version on."""
@@ -49,6 +54,13 @@ def fits(row: dict[str, Any], difference: Difference) -> bool:
         and all(difference.call.get(key) in values for key, values in row.get("has", {}).items())
         and ("test" not in row or TESTS[row["test"]](difference))
     )
+
+
+def is_end(row: dict[str, Any], script: list[dict[str, Any]], call: dict[str, Any]) -> bool:
+    """Whether a browser ends by a call, whatever others of its sort are in the script."""
+    difference = Difference(GONE, None, "script", "", "")
+    difference.script = [each for each in script if each is call or each["do"] not in row["by"]]
+    return fits(row, difference)
 
 
 # ---- what a row may ask of the script besides, by the name of its `test` ----
@@ -115,6 +127,11 @@ def has_canvas(difference: Difference) -> bool:
     return any(call["do"] == "currentTexture" for call in before(difference))
 
 
+def has_configured(difference: Difference) -> bool:
+    """Whether a canvas was configured before."""
+    return any(call["do"] == "configureCanvas" for call in before(difference))
+
+
 def has_pass(difference: Difference) -> bool:
     """Whether what is submitted came of an encoder on which a pass was begun."""
     ended = {call["as"]: call["on"] for call in before(difference) if call["do"] == "finish"}
@@ -136,9 +153,34 @@ def has_depth_color(difference: Difference) -> bool:
     return any(re.match("depth|stencil", word) for words in attached for word in words[1:])
 
 
+def has_deep_resolve(difference: Difference) -> bool:
+    """Whether a pass has a color whose resolve view is of a 3D texture."""
+    deep = {call["as"] for call in difference.script if call["do"] == "createTexture" and call["dim"] == "3d"}
+    views = {call["as"] for call in difference.script if call["do"] == "createView" and call["texture"] in deep}
+    passes = [call["colors"] for call in difference.script if call["do"] == "beginRenderPass"]
+    return any(color["resolve"] in views for colors in passes for color in colors if color is not None)
+
+
 def has_no_bundle(difference: Difference) -> bool:
     """Whether a pass executes a list of no bundle before."""
     return any(call["do"] == "executeBundles" and not call["bundles"] for call in before(difference))
+
+
+def has_destroyed_queries(difference: Difference) -> bool:
+    """Whether a query set was destroyed before."""
+    sets = {call["as"] for call in difference.script if call["do"] == "createQuerySet"}
+    return any(call["do"] == "destroy" and call["object"] in sets for call in before(difference))
+
+
+def has_odd_index(difference: Difference) -> bool:
+    """Whether indices are set from an offset that is no multiple of 4."""
+    return any(call["offset"] % 4 for call in difference.script if call["do"] == "setIndexBuffer")
+
+
+def has_empty_copy(difference: Difference) -> bool:
+    """Whether something copies texels to or from a texture, and none of them."""
+    copies = [call for call in before(difference) if re.match("copy.*Texture", call["do"])]
+    return any(0 in call["size"] for call in copies)
 
 
 def has_visibility(difference: Difference) -> bool:
@@ -167,7 +209,7 @@ TESTS = {
     each.__name__: each
     for each in (
         is_served, is_texel_buffer, is_lost, is_encoder_refused, names_destroyed, has_canvas, has_pass, follows_map,
-        has_depth_color, has_null_targets, has_visibility,
-        has_no_bundle, is_fewer,
+        has_depth_color, has_deep_resolve, has_null_targets, has_visibility, has_no_bundle, is_fewer,
+        has_destroyed_queries, has_empty_copy, has_odd_index, has_configured,
     )
 }
