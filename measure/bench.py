@@ -7,9 +7,9 @@ docs/costs.md. `--long` measures scripts of some 65,536 calls in place of the ot
 quarter of an hour: where nothing is a square, a call costs the same in both. `--traces` measures `check` on traces of 200,000 lines, each
 against one of half its lines. `--submits` measures what a device does under its lock for the submit of a
 command buffer, by its commands, and what it takes to note one more. `--texts` measures the processor time for texts of which one object
-has 400,000 members, and with `--check` fails where one takes more than it may. `--program PATH` names another program; `--only WORD` measures the
-scripts alone whose title has the word; `--functions N` lists, below each script, the N functions that took most, and `--inclusive` with all
-that they call.
+has 400,000 members, and with `--check` fails where one takes more than it may. `--program PATH` names another program; `--only WORD`
+measures the scripts alone whose title has the word; `--functions N` lists, below each script, the N functions that took most, and
+`--inclusive` with all that they call.
 
 Through C, by `measure/loop.c`, which is linked with the archive that the gate built, or by `--archive PATH` with another, and `--libc PATH`
 with another heap: `--through-c` counts what calls cost, by two pairs of counts or those of `--counts` alone, and what a device keeps;

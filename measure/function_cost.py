@@ -1,12 +1,12 @@
 #!/usr/bin/env python3
-"""Measures what the proof of each function of a crate costs, from nothing: removes what `rt check` kept of the crate, runs it at one job, and
-at each line that says that a function's proof has ended notes how many processor seconds went by since the line before.
+"""Measures what the proof of each function of a crate costs, from nothing: removes what `rt check` kept of the crate, runs it at one job,
+and at each line that says that a function's proof has ended notes how many processor seconds went by since the line before.
 
     measure/function-cost CRATE [--test] [--most COUNT]
 
-The crates below are taken as they stand in their out/, and are proved first where they are not there. The prover goes depth first, so that
-what a function needs and no function before it did (its code, the contracts of what it calls, what it is the first to load of std) counts to
-whichever function ends next: a line can be wrong by ten seconds, and only sums over equal sets of functions can be compared. Processor
+The crates below are taken as they stand in their out/, and are proved first where they are not there. The prover goes depth first, so
+that what a function needs and no function before it did (its code, the contracts of what it calls, what it is the first to load of std)
+counts to whichever function ends next: a line can be wrong by ten seconds, and only sums over equal sets of functions can be compared. Processor
 seconds grow with the load. Control and C ends it, with a table of what has ended until then. Changes no document.
 """
 
@@ -25,7 +25,8 @@ ENDED = re.compile(r"checked (\S+), \d+ of \d+$")
 
 
 def arguments():
-    parser = argparse.ArgumentParser(prog="measure/function-cost", description=__doc__, formatter_class=argparse.RawDescriptionHelpFormatter)
+    layout = argparse.RawDescriptionHelpFormatter
+    parser = argparse.ArgumentParser(prog="measure/function-cost", description=__doc__, formatter_class=layout)
     parser.add_argument("crate", metavar="CRATE", help="its name, as in crates.txt")
     parser.add_argument("--test", action="store_true", help="with its #[test] functions")
     parser.add_argument("--most", type=int, default=40, metavar="COUNT", help="how many of the dearest are written; 40, if left out")

@@ -15,8 +15,8 @@ from .core import MOST, Answered, Core, Flat
 MEMORY = 2**24
 # How many threads or vertices a command may have that is carried out: more take a driver on a processor too long.
 MOST_RUNS = 2**16
-# The usages by which a buffer is mapped, and from what size on a page has no memory for one that may be; below that it takes the memory when
-# the buffer is made, also of one that is refused.
+# The usages by which a buffer is mapped, and from what size on a page has no memory for one that may be; below that it takes the memory
+# when the buffer is made, also of one that is refused.
 MAPS, MOST_MAPPED = 3, 2**31
 # How many pixels a canvas has on a side at most: browsers take no more, or none of that.
 MOST_PIXELS = 2**31 - 1
