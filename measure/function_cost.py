@@ -6,8 +6,8 @@ and at each line that says that a function's proof has ended notes how many proc
 
 The crates below are taken as they stand in their out/, and are proved first where they are not there. The prover goes depth first, so
 that what a function needs and no function before it did (its code, the contracts of what it calls, what it is the first to load of std)
-counts to whichever function ends next: a line can be wrong by ten seconds, and only sums over equal sets of functions can be compared. Processor
-seconds grow with the load. Control and C ends it, with a table of what has ended until then. Changes no document.
+counts to whichever function ends next: a line can be wrong by ten seconds, and only sums over equal sets of functions can be compared.
+Processor seconds grow with the load. Control and C ends it, with a table of what has ended until then. Changes no document.
 """
 
 import argparse
