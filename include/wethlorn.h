@@ -16,12 +16,12 @@
  * the device that gave it is the caller's to see to. A caller has nothing to free but the device.
  *
  * Memory. Nothing is kept of a call. Of an object that was dropped, that nothing else holds and that was
- * released, if it is a resource, nothing is kept but some 200 bytes for 4,096 such objects behind an older one
+ * released, if it is a resource, nothing is kept but some 200 bytes for 3,072 such objects behind an older one
  * that stays (docs/costs.md has what was measured). An object that is not dropped is kept.
  *
  * Status. Each call returns a status. WETHLORN_OK: it was made, and `out` has the answer. Otherwise nothing
- * was made: the device is as it was before the call, and `out` is not written, but by WETHLORN_NO_ROOM. After
- * WETHLORN_NO_MEMORY the call may be made again.
+ * was made: the device is as it was before the call, and `out` is not written, but by WETHLORN_NO_ROOM, and by
+ * WETHLORN_BAD_VALUE of wethlorn_open. After WETHLORN_NO_MEMORY the call may be made again.
  *
  * Faults. A call that WebGPU refuses has the status WETHLORN_OK, and its reply has the fault: an error is
  * an answer like others.
@@ -103,7 +103,7 @@ enum {
     WETHLORN_KEPT = 6            /* a command was recorded. There is no word on validity till the finish */
 };
 
-/* Kinds of faults; also of what an error scope received. */
+/* Kinds of faults; also of what an error scope received. What a rule asks is told in words by wethlorn_rules.h. */
 enum { WETHLORN_NO_FAULT = 0, WETHLORN_VALIDATION = 1, WETHLORN_OUT_OF_MEMORY = 2 };
 
 /* Which faults an error scope catches. No fault is internal. */
@@ -174,7 +174,7 @@ enum {
     WETHLORN_USAGE_CLEAR = 4096
 };
 
-/* Limits that one can ask for. */
+/* Limits that one can ask for, and that wethlorn_get_limit tells. */
 enum {
     WETHLORN_MAX_TEXTURE_DIMENSION_1D = 1,
     WETHLORN_MAX_TEXTURE_DIMENSION_2D = 2,
@@ -200,6 +200,56 @@ enum {
     WETHLORN_MAX_COLOR_ATTACHMENTS = 22,
     WETHLORN_MAX_COMPUTE_WORKGROUPS_PER_DIMENSION = 23
 };
+
+/* The limits of a device of which nothing is asked, and which each adapter supports. Of a MAX the greater value is
+ * the better one, of a MIN the smaller. */
+#define WETHLORN_DEFAULT_MAX_TEXTURE_DIMENSION_1D UINT64_C(8192)
+#define WETHLORN_DEFAULT_MAX_TEXTURE_DIMENSION_2D UINT64_C(8192)
+#define WETHLORN_DEFAULT_MAX_TEXTURE_DIMENSION_3D UINT64_C(2048)
+#define WETHLORN_DEFAULT_MAX_TEXTURE_ARRAY_LAYERS UINT64_C(256)
+#define WETHLORN_DEFAULT_MAX_BIND_GROUPS UINT64_C(4)
+#define WETHLORN_DEFAULT_MAX_BINDINGS_PER_BIND_GROUP UINT64_C(1000)
+#define WETHLORN_DEFAULT_MAX_DYNAMIC_UNIFORM_BUFFERS_PER_PIPELINE_LAYOUT UINT64_C(8)
+#define WETHLORN_DEFAULT_MAX_DYNAMIC_STORAGE_BUFFERS_PER_PIPELINE_LAYOUT UINT64_C(4)
+#define WETHLORN_DEFAULT_MAX_SAMPLED_TEXTURES_PER_SHADER_STAGE UINT64_C(16)
+#define WETHLORN_DEFAULT_MAX_SAMPLERS_PER_SHADER_STAGE UINT64_C(16)
+#define WETHLORN_DEFAULT_MAX_STORAGE_BUFFERS_PER_SHADER_STAGE UINT64_C(8)
+#define WETHLORN_DEFAULT_MAX_STORAGE_TEXTURES_PER_SHADER_STAGE UINT64_C(4)
+#define WETHLORN_DEFAULT_MAX_UNIFORM_BUFFERS_PER_SHADER_STAGE UINT64_C(12)
+#define WETHLORN_DEFAULT_MAX_UNIFORM_BUFFER_BINDING_SIZE UINT64_C(65536)
+#define WETHLORN_DEFAULT_MAX_STORAGE_BUFFER_BINDING_SIZE UINT64_C(134217728)
+#define WETHLORN_DEFAULT_MIN_UNIFORM_BUFFER_OFFSET_ALIGNMENT UINT64_C(256)
+#define WETHLORN_DEFAULT_MIN_STORAGE_BUFFER_OFFSET_ALIGNMENT UINT64_C(256)
+#define WETHLORN_DEFAULT_MAX_VERTEX_BUFFERS UINT64_C(8)
+#define WETHLORN_DEFAULT_MAX_VERTEX_ATTRIBUTES UINT64_C(16)
+#define WETHLORN_DEFAULT_MAX_VERTEX_BUFFER_ARRAY_STRIDE UINT64_C(2048)
+#define WETHLORN_DEFAULT_MAX_BUFFER_SIZE UINT64_C(268435456)
+#define WETHLORN_DEFAULT_MAX_COLOR_ATTACHMENTS UINT64_C(8)
+#define WETHLORN_DEFAULT_MAX_COMPUTE_WORKGROUPS_PER_DIMENSION UINT64_C(65535)
+/* The best limits that this library knows, whatever an adapter supports. */
+#define WETHLORN_BEST_MAX_TEXTURE_DIMENSION_1D UINT64_C(16384)
+#define WETHLORN_BEST_MAX_TEXTURE_DIMENSION_2D UINT64_C(16384)
+#define WETHLORN_BEST_MAX_TEXTURE_DIMENSION_3D UINT64_C(4096)
+#define WETHLORN_BEST_MAX_TEXTURE_ARRAY_LAYERS UINT64_C(2048)
+#define WETHLORN_BEST_MAX_BIND_GROUPS UINT64_C(4)
+#define WETHLORN_BEST_MAX_BINDINGS_PER_BIND_GROUP UINT64_C(4000)
+#define WETHLORN_BEST_MAX_DYNAMIC_UNIFORM_BUFFERS_PER_PIPELINE_LAYOUT UINT64_C(16)
+#define WETHLORN_BEST_MAX_DYNAMIC_STORAGE_BUFFERS_PER_PIPELINE_LAYOUT UINT64_C(8)
+#define WETHLORN_BEST_MAX_SAMPLED_TEXTURES_PER_SHADER_STAGE UINT64_C(64)
+#define WETHLORN_BEST_MAX_SAMPLERS_PER_SHADER_STAGE UINT64_C(32)
+#define WETHLORN_BEST_MAX_STORAGE_BUFFERS_PER_SHADER_STAGE UINT64_C(32)
+#define WETHLORN_BEST_MAX_STORAGE_TEXTURES_PER_SHADER_STAGE UINT64_C(16)
+#define WETHLORN_BEST_MAX_UNIFORM_BUFFERS_PER_SHADER_STAGE UINT64_C(24)
+#define WETHLORN_BEST_MAX_UNIFORM_BUFFER_BINDING_SIZE UINT64_C(1048576)
+#define WETHLORN_BEST_MAX_STORAGE_BUFFER_BINDING_SIZE UINT64_C(4294967296)
+#define WETHLORN_BEST_MIN_UNIFORM_BUFFER_OFFSET_ALIGNMENT UINT64_C(256)
+#define WETHLORN_BEST_MIN_STORAGE_BUFFER_OFFSET_ALIGNMENT UINT64_C(256)
+#define WETHLORN_BEST_MAX_VERTEX_BUFFERS UINT64_C(8)
+#define WETHLORN_BEST_MAX_VERTEX_ATTRIBUTES UINT64_C(32)
+#define WETHLORN_BEST_MAX_VERTEX_BUFFER_ARRAY_STRIDE UINT64_C(8192)
+#define WETHLORN_BEST_MAX_BUFFER_SIZE UINT64_C(4294967296)
+#define WETHLORN_BEST_MAX_COLOR_ATTACHMENTS UINT64_C(8)
+#define WETHLORN_BEST_MAX_COMPUTE_WORKGROUPS_PER_DIMENSION UINT64_C(65535)
 
 /* Formats of textures. 0 where a format may be left out. */
 enum {
@@ -343,7 +393,7 @@ typedef struct wethlorn_reply {
     uint32_t answer;
     uint32_t valid;  /* of a MADE: 1 where the object is valid */
     uint32_t fault;  /* the kind of the fault, or WETHLORN_NO_FAULT */
-    uint32_t rule;   /* the number of the first rule that was broken (docs/rules.md) */
+    uint32_t rule;   /* the number of the first rule that was broken (wethlorn_rules.h, docs/rules.md) */
     uint32_t caught; /* 1: an error scope caught the fault; 0: none did, and it is an uncaptured error */
     uint32_t pass;   /* of a command that begins a pass: its number; 0 where the encoder has ended */
 } wethlorn_reply;
@@ -389,6 +439,11 @@ typedef struct wethlorn_left {
     uint64_t items, settlements; /* of each how many, at most 2^64 - 1 */
 } wethlorn_left;
 
+/* Bytes of a buffer, from the first up to but not including the second. */
+typedef struct wethlorn_bytes {
+    uint64_t from, to;
+} wethlorn_bytes;
+
 /* How many items, with how many uses and accesses. */
 typedef struct wethlorn_counts {
     uint64_t items, uses, accesses;
@@ -398,6 +453,18 @@ typedef struct wethlorn_limit {
     uint32_t name;
     uint64_t value;
 } wethlorn_limit;
+
+/* In which list of wethlorn_open a limit stands. */
+enum {
+    WETHLORN_IN_BEST = 1,  /* what the adapter supports */
+    WETHLORN_IN_LIMITS = 2 /* what is asked */
+};
+
+/* The first limit with which a device cannot be opened: its list, and its place there, from 0. */
+typedef struct wethlorn_bad_limit {
+    uint32_t list;
+    uint64_t place;
+} wethlorn_bad_limit;
 
 typedef struct wethlorn_extent {
     uint32_t width, height, depth; /* depth, or array layers */
@@ -563,13 +630,26 @@ typedef struct wethlorn_texture_write {
 uint32_t wethlorn_version(void);
 
 /* Opens a device whose resources may have `budget` bytes. Each device of a process gets another `serial`.
- * It has the default limits, or of those that are asked for the better of default and value; where a limit
- * stands twice the first counts. BAD_VALUE: a name that is none, a value better than the best, or an
- * alignment that is no power of two below 2^32. Status: OK, NO_MEMORY, BAD_VALUE, IS_OPEN. Owner: the
- * device owns what lies behind it until wethlorn_close; the list stays the caller's. Thread: any, one at a
- * time, under the caller's lock. */
-uint32_t wethlorn_open(uint64_t budget, uint64_t serial, const wethlorn_limit *limits, size_t limits_count,
-    wethlorn_device *device);
+ *
+ * `best` is what the adapter supports. A limit that it does not name is supported up to the best that this
+ * library knows, WETHLORN_BEST_.., and a value that is better than that counts as that. Of a limit that stands
+ * twice the first value counts. No value may be worse than the default, which each adapter supports.
+ *
+ * `limits` is what is asked for (requiredLimits). The device has the default limits, or of those that are asked
+ * for the better of default and value; where a limit stands twice the first counts. wethlorn_get_limit tells
+ * what it has.
+ *
+ * BAD_VALUE: `out` has the first limit of `best` that is none, or else the first of `limits`: a name that is
+ * none, an alignment that is no power of two below 2^32, in `best` a value worse than the default, in `limits`
+ * one better than what the adapter supports. `out` is written by no other status. Status: OK, NO_MEMORY,
+ * BAD_VALUE, IS_OPEN. Owner: the device owns what lies behind it until wethlorn_close; the lists stay the
+ * caller's, and so does `out`. Thread: any, one at a time, under the caller's lock. */
+uint32_t wethlorn_open(uint64_t budget, uint64_t serial, const wethlorn_limit *best, size_t best_count,
+    const wethlorn_limit *limits, size_t limits_count, wethlorn_device *device, wethlorn_bad_limit *out);
+
+/* Tells a limit that the device has, by its name: what calls are held to. BAD_VALUE: the name is none. Status:
+ * OK, CLOSED, BAD_VALUE. Owner: `out` is the caller's. Thread: any, one at a time, under the caller's lock. */
+uint32_t wethlorn_get_limit(wethlorn_device *device, uint32_t name, uint64_t *out);
 
 /* Closes a device, with all that it has. Items and settlements that were not told are lost, and `out` says how
  * many these were: where it says of any items, a driver has not done all that it was to do. Status: OK, CLOSED.
@@ -577,146 +657,144 @@ uint32_t wethlorn_open(uint64_t budget, uint64_t serial, const wethlorn_limit *l
  * says; `out` is the caller's. Thread: any, one at a time, under the caller's lock. */
 uint32_t wethlorn_close(wethlorn_device *device, wethlorn_left *out);
 
-/* ---- What is made. `who` is any number that the caller gives itself: it stands in the history alone. ---- */
+/* ---- What is made ---- */
 
 /* Makes a buffer (createBuffer). Status: OK, NO_MEMORY, CLOSED, BAD_VALUE. Owner: the device keeps what it
  * makes; the arguments stay the caller's. Thread: any, one at a time, under the caller's lock. */
-uint32_t wethlorn_create_buffer(wethlorn_device *device, uint32_t who, const wethlorn_buffer_desc *desc,
+uint32_t wethlorn_create_buffer(wethlorn_device *device, const wethlorn_buffer_desc *desc,
     wethlorn_reply *out);
 
 /* Makes a texture (createTexture). Status: OK, NO_MEMORY, CLOSED, BAD_VALUE. Owner: the device keeps what
  * it makes; the arguments stay the caller's. Thread: any, one at a time, under the caller's lock. */
-uint32_t wethlorn_create_texture(wethlorn_device *device, uint32_t who, const wethlorn_texture_desc *desc,
+uint32_t wethlorn_create_texture(wethlorn_device *device, const wethlorn_texture_desc *desc,
     wethlorn_reply *out);
 
 /* Makes a view of a texture (createView). Status: OK, NO_MEMORY, NO_OBJECT, CLOSED, BAD_VALUE. Owner: the
  * device keeps what it makes; the arguments stay the caller's. Thread: any, one at a time, under the
  * caller's lock. */
-uint32_t wethlorn_create_view(wethlorn_device *device, uint32_t who, uint64_t texture,
-    const wethlorn_view_desc *desc, wethlorn_reply *out);
+uint32_t wethlorn_create_view(wethlorn_device *device, uint64_t texture, const wethlorn_view_desc *desc,
+    wethlorn_reply *out);
 
 /* Makes a sampler (createSampler). Status: OK, NO_MEMORY, CLOSED, BAD_VALUE. Owner: the device keeps what
  * it makes; the arguments stay the caller's. Thread: any, one at a time, under the caller's lock. */
-uint32_t wethlorn_create_sampler(wethlorn_device *device, uint32_t who, uint32_t kind, wethlorn_reply *out);
+uint32_t wethlorn_create_sampler(wethlorn_device *device, uint32_t kind, wethlorn_reply *out);
 
 /* Makes a bind group layout (createBindGroupLayout). Status: OK, NO_MEMORY, CLOSED, BAD_VALUE. Owner: the
  * device keeps what it makes; the arguments stay the caller's. Thread: any, one at a time, under the
  * caller's lock. */
-uint32_t wethlorn_create_bind_group_layout(wethlorn_device *device, uint32_t who,
-    const wethlorn_layout_entry *entries, size_t entries_count, wethlorn_reply *out);
+uint32_t wethlorn_create_bind_group_layout(wethlorn_device *device, const wethlorn_layout_entry *entries,
+    size_t entries_count, wethlorn_reply *out);
 
 /* Makes a pipeline layout of bind group layouts (createPipelineLayout). Status: OK, NO_MEMORY, NO_OBJECT,
  * CLOSED. Owner: the device keeps what it makes; the arguments stay the caller's. Thread: any, one at a
  * time, under the caller's lock. */
-uint32_t wethlorn_create_pipeline_layout(wethlorn_device *device, uint32_t who, const uint64_t *layouts,
+uint32_t wethlorn_create_pipeline_layout(wethlorn_device *device, const uint64_t *layouts,
     size_t layouts_count, wethlorn_reply *out);
 
 /* Makes a bind group (createBindGroup). Status: OK, NO_MEMORY, NO_OBJECT, CLOSED, BAD_VALUE. Owner: the
  * device keeps what it makes; the arguments stay the caller's. Thread: any, one at a time, under the
  * caller's lock. */
-uint32_t wethlorn_create_bind_group(wethlorn_device *device, uint32_t who, uint64_t layout,
+uint32_t wethlorn_create_bind_group(wethlorn_device *device, uint64_t layout,
     const wethlorn_group_entry *entries, size_t entries_count, wethlorn_reply *out);
 
 /* Makes a compute pipeline (createComputePipeline) whose shader uses these bindings. `layout` may be
  * WETHLORN_NONE: the pipeline derives its layout itself. Status: OK, NO_MEMORY, NO_OBJECT, CLOSED,
  * BAD_VALUE. Owner: the device keeps what it makes; the arguments stay the caller's. Thread: any, one at a
  * time, under the caller's lock. */
-uint32_t wethlorn_create_compute_pipeline(wethlorn_device *device, uint32_t who, uint64_t layout,
+uint32_t wethlorn_create_compute_pipeline(wethlorn_device *device, uint64_t layout,
     const wethlorn_iface_entry *iface, size_t iface_count, wethlorn_reply *out);
 
 /* Makes a render pipeline (createRenderPipeline). `buffers` stand by slot, and each of `attributes` has
  * the index of its buffer: BAD_VALUE where there is none. `targets` are formats, of which each may be 0.
  * Status: OK, NO_MEMORY, NO_OBJECT, CLOSED, BAD_VALUE. Owner: the device keeps what it makes; the
  * arguments stay the caller's. Thread: any, one at a time, under the caller's lock. */
-uint32_t wethlorn_create_render_pipeline(wethlorn_device *device, uint32_t who,
-    const wethlorn_render_desc *desc, const wethlorn_iface_entry *iface, size_t iface_count,
-    const wethlorn_vertex_buffer *buffers, size_t buffers_count, const wethlorn_vertex_attribute *attributes,
-    size_t attributes_count, const uint32_t *targets, size_t targets_count, wethlorn_reply *out);
+uint32_t wethlorn_create_render_pipeline(wethlorn_device *device, const wethlorn_render_desc *desc,
+    const wethlorn_iface_entry *iface, size_t iface_count, const wethlorn_vertex_buffer *buffers,
+    size_t buffers_count, const wethlorn_vertex_attribute *attributes, size_t attributes_count,
+    const uint32_t *targets, size_t targets_count, wethlorn_reply *out);
 
 /* Makes the bind group layout that a pipeline of either kind has for a group (getBindGroupLayout). Status:
  * OK, NO_MEMORY, NO_OBJECT, CLOSED. Owner: the device keeps what it makes; the arguments stay the
  * caller's. Thread: any, one at a time, under the caller's lock. */
-uint32_t wethlorn_get_bind_group_layout(wethlorn_device *device, uint32_t who, uint64_t pipeline,
-    uint32_t index, wethlorn_reply *out);
+uint32_t wethlorn_get_bind_group_layout(wethlorn_device *device, uint64_t pipeline, uint32_t index,
+    wethlorn_reply *out);
 
 /* Makes a set of occlusion queries (createQuerySet). Status: OK, NO_MEMORY, CLOSED. Owner: the device
  * keeps what it makes; the arguments stay the caller's. Thread: any, one at a time, under the caller's
  * lock. */
-uint32_t wethlorn_create_query_set(wethlorn_device *device, uint32_t who, uint32_t count,
-    wethlorn_reply *out);
+uint32_t wethlorn_create_query_set(wethlorn_device *device, uint32_t count, wethlorn_reply *out);
 
 /* Makes an encoder (createCommandEncoder). Status: OK, NO_MEMORY, CLOSED. Owner: the device keeps what it
  * makes; the arguments stay the caller's. Thread: any, one at a time, under the caller's lock. */
-uint32_t wethlorn_create_encoder(wethlorn_device *device, uint32_t who, wethlorn_reply *out);
+uint32_t wethlorn_create_encoder(wethlorn_device *device, wethlorn_reply *out);
 
 /* Makes a bundle encoder (createRenderBundleEncoder). `colors` are formats, of which each may be 0.
  * Status: OK, NO_MEMORY, CLOSED, BAD_VALUE. Owner: the device keeps what it makes; the arguments stay the
  * caller's. Thread: any, one at a time, under the caller's lock. */
-uint32_t wethlorn_create_bundle_encoder(wethlorn_device *device, uint32_t who,
-    const wethlorn_bundle_desc *desc, const uint32_t *colors, size_t colors_count, wethlorn_reply *out);
+uint32_t wethlorn_create_bundle_encoder(wethlorn_device *device, const wethlorn_bundle_desc *desc,
+    const uint32_t *colors, size_t colors_count, wethlorn_reply *out);
 
 /* Ends an encoder, and makes a command buffer of what was recorded on it (finish); or ends a bundle
  * encoder, and makes a bundle. Status: OK, NO_MEMORY, NO_OBJECT, CLOSED. Owner: the device keeps what it
  * makes; the arguments stay the caller's. Thread: any, one at a time, under the caller's lock. */
-uint32_t wethlorn_finish(wethlorn_device *device, uint32_t who, uint64_t encoder, wethlorn_reply *out);
+uint32_t wethlorn_finish(wethlorn_device *device, uint64_t encoder, wethlorn_reply *out);
 
 /* ---- The queue, maps, and what becomes of objects ---- */
 
 /* Queues command buffers as one operation (submit). Status: OK, NO_MEMORY, NO_OBJECT, CLOSED. Owner: the
  * arguments stay the caller's. Thread: any, one at a time, under the caller's lock. */
-uint32_t wethlorn_submit(wethlorn_device *device, uint32_t who, const uint64_t *buffers,
-    size_t buffers_count, wethlorn_reply *out);
+uint32_t wethlorn_submit(wethlorn_device *device, const uint64_t *buffers, size_t buffers_count,
+    wethlorn_reply *out);
 
 /* Queues a write of `size` bytes of a buffer (writeBuffer). The data is no matter of this call. Status:
  * OK, NO_MEMORY, NO_OBJECT, CLOSED. Owner: the arguments stay the caller's. Thread: any, one at a time,
  * under the caller's lock. */
-uint32_t wethlorn_write_buffer(wethlorn_device *device, uint32_t who, uint64_t buffer, uint64_t offset,
-    uint64_t size, wethlorn_reply *out);
+uint32_t wethlorn_write_buffer(wethlorn_device *device, uint64_t buffer, uint64_t offset, uint64_t size,
+    wethlorn_reply *out);
 
 /* Queues a write of texels (writeTexture). Status: OK, NO_MEMORY, NO_OBJECT, CLOSED, BAD_VALUE. Owner: the
  * arguments stay the caller's. Thread: any, one at a time, under the caller's lock. */
-uint32_t wethlorn_write_texture(wethlorn_device *device, uint32_t who, const wethlorn_texture_write *write,
+uint32_t wethlorn_write_texture(wethlorn_device *device, const wethlorn_texture_write *write,
     wethlorn_reply *out);
 
 /* Asks for a mapping of a range of a buffer (mapAsync), which makes a promise. Each `mode` but the two that
  * have a name is answered by a fault. `size` may be WETHLORN_NONE. Status: OK, NO_MEMORY, NO_OBJECT,
  * CLOSED. Owner: the arguments stay the caller's. Thread: any, one at a time, under the caller's lock. */
-uint32_t wethlorn_map_async(wethlorn_device *device, uint32_t who, uint64_t buffer, wethlorn_map_mode mode,
+uint32_t wethlorn_map_async(wethlorn_device *device, uint64_t buffer, wethlorn_map_mode mode,
     uint64_t offset, uint64_t size, wethlorn_reply *out);
 
 /* Ends the mapping of a buffer, or gives up the one that was asked for (unmap). Status: OK, NO_MEMORY,
  * NO_OBJECT, CLOSED. Owner: the arguments stay the caller's. Thread: any, one at a time, under the
  * caller's lock. */
-uint32_t wethlorn_unmap(wethlorn_device *device, uint32_t who, uint64_t buffer, wethlorn_reply *out);
+uint32_t wethlorn_unmap(wethlorn_device *device, uint64_t buffer, wethlorn_reply *out);
 
 /* Destroys a buffer, a texture or a query set (destroy). Status: OK, NO_MEMORY, NO_OBJECT, CLOSED. Owner:
  * the arguments stay the caller's. Thread: any, one at a time, under the caller's lock. */
-uint32_t wethlorn_destroy(wethlorn_device *device, uint32_t who, uint64_t object, wethlorn_reply *out);
+uint32_t wethlorn_destroy(wethlorn_device *device, uint64_t object, wethlorn_reply *out);
 
 /* Says that the caller lets go of an object, of any kind, as by garbage collection. Its number names
  * nothing from then on. Status: OK, NO_MEMORY, NO_OBJECT, CLOSED. Owner: the arguments stay the caller's.
  * Thread: any, one at a time, under the caller's lock. */
-uint32_t wethlorn_drop(wethlorn_device *device, uint32_t who, uint64_t object, wethlorn_reply *out);
+uint32_t wethlorn_drop(wethlorn_device *device, uint64_t object, wethlorn_reply *out);
 
 /* Says that the operations up to `op` are complete on the GPU, which is taken as true. Status: OK,
  * NO_MEMORY, CLOSED. Owner: the arguments stay the caller's. Thread: any, one at a time, under the
  * caller's lock. */
-uint32_t wethlorn_complete(wethlorn_device *device, uint32_t who, uint64_t op, wethlorn_reply *out);
+uint32_t wethlorn_complete(wethlorn_device *device, uint64_t op, wethlorn_reply *out);
 
 /* Makes a promise that is settled once all operations that were queued before are complete
  * (onSubmittedWorkDone). Status: OK, NO_MEMORY, CLOSED. Owner: the arguments stay the caller's. Thread:
  * any, one at a time, under the caller's lock. */
-uint32_t wethlorn_work_done(wethlorn_device *device, uint32_t who, wethlorn_reply *out);
+uint32_t wethlorn_work_done(wethlorn_device *device, wethlorn_reply *out);
 
 /* Opens an error scope (pushErrorScope). Status: OK, NO_MEMORY, CLOSED, BAD_VALUE. Owner: the arguments
  * stay the caller's. Thread: any, one at a time, under the caller's lock. */
-uint32_t wethlorn_push_error_scope(wethlorn_device *device, uint32_t who, uint32_t filter,
-    wethlorn_reply *out);
+uint32_t wethlorn_push_error_scope(wethlorn_device *device, uint32_t filter, wethlorn_reply *out);
 
 /* Closes the error scope that was opened last, and makes a promise that tells what it received first
  * (popErrorScope). Status: OK, NO_MEMORY, CLOSED. Owner: the arguments stay the caller's. Thread: any, one
  * at a time, under the caller's lock. */
-uint32_t wethlorn_pop_error_scope(wethlorn_device *device, uint32_t who, wethlorn_reply *out);
+uint32_t wethlorn_pop_error_scope(wethlorn_device *device, wethlorn_reply *out);
 
 /* The device is lost from here on (destroy of a device, or a loss). The maps and the workDone promises that
  * wait are settled, and nothing is released: operations that are queued are not complete by it, buffers that
@@ -724,7 +802,7 @@ uint32_t wethlorn_pop_error_scope(wethlorn_device *device, uint32_t who, wethlor
  * what the GPU has done, or will never touch again, and to drop; each release then comes by the drain. Status:
  * OK, NO_MEMORY, CLOSED. Owner: the arguments stay the caller's. Thread: any, one at a time, under the
  * caller's lock. */
-uint32_t wethlorn_lose(wethlorn_device *device, uint32_t who, wethlorn_reply *out);
+uint32_t wethlorn_lose(wethlorn_device *device, wethlorn_reply *out);
 
 /* ---- Commands. They are recorded on an encoder or a bundle encoder. `pass` is the number of a pass that was
  * begun on the encoder, or WETHLORN_ON_ENCODER. Passes of an encoder are numbered from 0 in the order of their
@@ -735,144 +813,141 @@ uint32_t wethlorn_lose(wethlorn_device *device, uint32_t who, wethlorn_reply *ou
 /* Begins a compute pass (beginComputePass); `out->pass` is its number. Status: OK, NO_MEMORY, NO_OBJECT,
  * CLOSED. Owner: the device keeps what it makes; the arguments stay the caller's. Thread: any, one at a
  * time, under the caller's lock. */
-uint32_t wethlorn_begin_compute_pass(wethlorn_device *device, uint32_t who, uint64_t encoder,
-    wethlorn_reply *out);
+uint32_t wethlorn_begin_compute_pass(wethlorn_device *device, uint64_t encoder, wethlorn_reply *out);
 
 /* Begins a render pass (beginRenderPass); `out->pass` is its number. `colors` stand by slot. `queries` is
  * the query set of its occlusion queries, or WETHLORN_NONE. Status: OK, NO_MEMORY, NO_OBJECT, CLOSED,
  * BAD_VALUE. Owner: the device keeps what it makes; the arguments stay the caller's. Thread: any, one at a
  * time, under the caller's lock. */
-uint32_t wethlorn_begin_render_pass(wethlorn_device *device, uint32_t who, uint64_t encoder,
-    const wethlorn_color *colors, size_t colors_count, const wethlorn_depth *depth, uint64_t queries,
-    wethlorn_reply *out);
+uint32_t wethlorn_begin_render_pass(wethlorn_device *device, uint64_t encoder, const wethlorn_color *colors,
+    size_t colors_count, const wethlorn_depth *depth, uint64_t queries, wethlorn_reply *out);
 
 /* Ends a pass (end). Status: OK, NO_MEMORY, NO_OBJECT, CLOSED, NO_PASS. Owner: the arguments stay the
  * caller's. Thread: any, one at a time, under the caller's lock. */
-uint32_t wethlorn_end(wethlorn_device *device, uint32_t who, uint64_t encoder, uint32_t pass,
-    wethlorn_reply *out);
+uint32_t wethlorn_end(wethlorn_device *device, uint64_t encoder, uint32_t pass, wethlorn_reply *out);
 
 /* Opens a debug group of an encoder, a pass or a bundle encoder (pushDebugGroup). Status: OK, NO_MEMORY,
  * NO_OBJECT, CLOSED, NO_PASS. Owner: the arguments stay the caller's. Thread: any, one at a time, under
  * the caller's lock. */
-uint32_t wethlorn_push_debug_group(wethlorn_device *device, uint32_t who, uint64_t encoder, uint32_t pass,
+uint32_t wethlorn_push_debug_group(wethlorn_device *device, uint64_t encoder, uint32_t pass,
     wethlorn_reply *out);
 
 /* Closes the debug group that was opened last (popDebugGroup). Status: OK, NO_MEMORY, NO_OBJECT, CLOSED,
  * NO_PASS. Owner: the arguments stay the caller's. Thread: any, one at a time, under the caller's lock. */
-uint32_t wethlorn_pop_debug_group(wethlorn_device *device, uint32_t who, uint64_t encoder, uint32_t pass,
+uint32_t wethlorn_pop_debug_group(wethlorn_device *device, uint64_t encoder, uint32_t pass,
     wethlorn_reply *out);
 
 /* Records a copy of bytes (copyBufferToBuffer). Status: OK, NO_MEMORY, NO_OBJECT, CLOSED. Owner: the
  * arguments stay the caller's. Thread: any, one at a time, under the caller's lock. */
-uint32_t wethlorn_copy_buffer_to_buffer(wethlorn_device *device, uint32_t who, uint64_t encoder,
+uint32_t wethlorn_copy_buffer_to_buffer(wethlorn_device *device, uint64_t encoder,
     const wethlorn_buffer_copy *copy, wethlorn_reply *out);
 
 /* Records a copy from a buffer to a texture (copyBufferToTexture). Status: OK, NO_MEMORY, NO_OBJECT,
  * CLOSED, BAD_VALUE. Owner: the arguments stay the caller's. Thread: any, one at a time, under the
  * caller's lock. */
-uint32_t wethlorn_copy_buffer_to_texture(wethlorn_device *device, uint32_t who, uint64_t encoder,
+uint32_t wethlorn_copy_buffer_to_texture(wethlorn_device *device, uint64_t encoder,
     const wethlorn_texel_copy *copy, wethlorn_reply *out);
 
 /* Records a copy from a texture to a buffer (copyTextureToBuffer). Status: OK, NO_MEMORY, NO_OBJECT,
  * CLOSED, BAD_VALUE. Owner: the arguments stay the caller's. Thread: any, one at a time, under the
  * caller's lock. */
-uint32_t wethlorn_copy_texture_to_buffer(wethlorn_device *device, uint32_t who, uint64_t encoder,
+uint32_t wethlorn_copy_texture_to_buffer(wethlorn_device *device, uint64_t encoder,
     const wethlorn_texel_copy *copy, wethlorn_reply *out);
 
 /* Records a copy between textures (copyTextureToTexture). Status: OK, NO_MEMORY, NO_OBJECT, CLOSED. Owner:
  * the arguments stay the caller's. Thread: any, one at a time, under the caller's lock. */
-uint32_t wethlorn_copy_texture_to_texture(wethlorn_device *device, uint32_t who, uint64_t encoder,
+uint32_t wethlorn_copy_texture_to_texture(wethlorn_device *device, uint64_t encoder,
     const wethlorn_texture_copy *copy, wethlorn_reply *out);
 
 /* Records that bytes of a buffer are set to zero (clearBuffer). `size` may be WETHLORN_NONE. Status: OK,
  * NO_MEMORY, NO_OBJECT, CLOSED. Owner: the arguments stay the caller's. Thread: any, one at a time, under
  * the caller's lock. */
-uint32_t wethlorn_clear_buffer(wethlorn_device *device, uint32_t who, uint64_t encoder, uint64_t buffer,
-    uint64_t offset, uint64_t size, wethlorn_reply *out);
+uint32_t wethlorn_clear_buffer(wethlorn_device *device, uint64_t encoder, uint64_t buffer, uint64_t offset,
+    uint64_t size, wethlorn_reply *out);
 
 /* Records that results of queries are written to a buffer (resolveQuerySet). Status: OK, NO_MEMORY,
  * NO_OBJECT, CLOSED. Owner: the arguments stay the caller's. Thread: any, one at a time, under the
  * caller's lock. */
-uint32_t wethlorn_resolve_query_set(wethlorn_device *device, uint32_t who, uint64_t encoder,
-    uint64_t queries, uint32_t first, uint32_t count, uint64_t buffer, uint64_t offset, wethlorn_reply *out);
+uint32_t wethlorn_resolve_query_set(wethlorn_device *device, uint64_t encoder, uint64_t queries,
+    uint32_t first, uint32_t count, uint64_t buffer, uint64_t offset, wethlorn_reply *out);
 
 /* Sets the pipeline of a pass or a bundle (setPipeline). Status: OK, NO_MEMORY, NO_OBJECT, CLOSED,
  * NO_PASS. Owner: the arguments stay the caller's. Thread: any, one at a time, under the caller's lock. */
-uint32_t wethlorn_set_pipeline(wethlorn_device *device, uint32_t who, uint64_t encoder, uint32_t pass,
-    uint64_t pipeline, wethlorn_reply *out);
+uint32_t wethlorn_set_pipeline(wethlorn_device *device, uint64_t encoder, uint32_t pass, uint64_t pipeline,
+    wethlorn_reply *out);
 
 /* Sets a bind group of a pass or a bundle (setBindGroup), with an offset for each of its dynamic buffers.
  * Status: OK, NO_MEMORY, NO_OBJECT, CLOSED, NO_PASS. Owner: the arguments stay the caller's. Thread: any,
  * one at a time, under the caller's lock. */
-uint32_t wethlorn_set_bind_group(wethlorn_device *device, uint32_t who, uint64_t encoder, uint32_t pass,
-    uint32_t index, uint64_t group, const uint32_t *offsets, size_t offsets_count, wethlorn_reply *out);
+uint32_t wethlorn_set_bind_group(wethlorn_device *device, uint64_t encoder, uint32_t pass, uint32_t index,
+    uint64_t group, const uint32_t *offsets, size_t offsets_count, wethlorn_reply *out);
 
 /* Records a dispatch (dispatchWorkgroups). Status: OK, NO_MEMORY, NO_OBJECT, CLOSED, NO_PASS. Owner: the
  * arguments stay the caller's. Thread: any, one at a time, under the caller's lock. */
-uint32_t wethlorn_dispatch(wethlorn_device *device, uint32_t who, uint64_t encoder, uint32_t pass,
-    uint32_t x, uint32_t y, uint32_t z, wethlorn_reply *out);
+uint32_t wethlorn_dispatch(wethlorn_device *device, uint64_t encoder, uint32_t pass, uint32_t x, uint32_t y,
+    uint32_t z, wethlorn_reply *out);
 
 /* Records a dispatch whose counts stand in a buffer (dispatchWorkgroupsIndirect). Status: OK, NO_MEMORY,
  * NO_OBJECT, CLOSED, NO_PASS. Owner: the arguments stay the caller's. Thread: any, one at a time, under
  * the caller's lock. */
-uint32_t wethlorn_dispatch_indirect(wethlorn_device *device, uint32_t who, uint64_t encoder, uint32_t pass,
+uint32_t wethlorn_dispatch_indirect(wethlorn_device *device, uint64_t encoder, uint32_t pass,
     uint64_t buffer, uint64_t offset, wethlorn_reply *out);
 
 /* Sets a vertex buffer (setVertexBuffer). `size` may be WETHLORN_NONE. Status: OK, NO_MEMORY, NO_OBJECT,
  * CLOSED, NO_PASS. Owner: the arguments stay the caller's. Thread: any, one at a time, under the caller's
  * lock. */
-uint32_t wethlorn_set_vertex_buffer(wethlorn_device *device, uint32_t who, uint64_t encoder, uint32_t pass,
-    uint32_t slot, uint64_t buffer, uint64_t offset, uint64_t size, wethlorn_reply *out);
+uint32_t wethlorn_set_vertex_buffer(wethlorn_device *device, uint64_t encoder, uint32_t pass, uint32_t slot,
+    uint64_t buffer, uint64_t offset, uint64_t size, wethlorn_reply *out);
 
 /* Sets the index buffer (setIndexBuffer). `size` may be WETHLORN_NONE. Status: OK, NO_MEMORY, NO_OBJECT,
  * CLOSED, NO_PASS, BAD_VALUE. Owner: the arguments stay the caller's. Thread: any, one at a time, under
  * the caller's lock. */
-uint32_t wethlorn_set_index_buffer(wethlorn_device *device, uint32_t who, uint64_t encoder, uint32_t pass,
+uint32_t wethlorn_set_index_buffer(wethlorn_device *device, uint64_t encoder, uint32_t pass,
     uint64_t buffer, uint32_t format, uint64_t offset, uint64_t size, wethlorn_reply *out);
 
 /* Records a draw (draw). Status: OK, NO_MEMORY, NO_OBJECT, CLOSED, NO_PASS. Owner: the arguments stay the
  * caller's. Thread: any, one at a time, under the caller's lock. */
-uint32_t wethlorn_draw(wethlorn_device *device, uint32_t who, uint64_t encoder, uint32_t pass,
-    uint32_t vertices, uint32_t instances, uint32_t first_vertex, uint32_t first_instance,
-    wethlorn_reply *out);
+uint32_t wethlorn_draw(wethlorn_device *device, uint64_t encoder, uint32_t pass, uint32_t vertices,
+    uint32_t instances, uint32_t first_vertex, uint32_t first_instance, wethlorn_reply *out);
 
 /* Records a draw by the index buffer (drawIndexed). Status: OK, NO_MEMORY, NO_OBJECT, CLOSED, NO_PASS.
  * Owner: the arguments stay the caller's. Thread: any, one at a time, under the caller's lock. */
-uint32_t wethlorn_draw_indexed(wethlorn_device *device, uint32_t who, uint64_t encoder, uint32_t pass,
-    uint32_t indices, uint32_t instances, uint32_t first_index, uint32_t first_instance, wethlorn_reply *out);
+uint32_t wethlorn_draw_indexed(wethlorn_device *device, uint64_t encoder, uint32_t pass, uint32_t indices,
+    uint32_t instances, uint32_t first_index, uint32_t first_instance, wethlorn_reply *out);
 
 /* Records a draw whose numbers stand in a buffer (drawIndirect). Status: OK, NO_MEMORY, NO_OBJECT, CLOSED,
  * NO_PASS. Owner: the arguments stay the caller's. Thread: any, one at a time, under the caller's lock. */
-uint32_t wethlorn_draw_indirect(wethlorn_device *device, uint32_t who, uint64_t encoder, uint32_t pass,
-    uint64_t buffer, uint64_t offset, wethlorn_reply *out);
+uint32_t wethlorn_draw_indirect(wethlorn_device *device, uint64_t encoder, uint32_t pass, uint64_t buffer,
+    uint64_t offset, wethlorn_reply *out);
 
 /* Records an indexed draw whose numbers stand in a buffer (drawIndexedIndirect). Status: OK, NO_MEMORY,
  * NO_OBJECT, CLOSED, NO_PASS. Owner: the arguments stay the caller's. Thread: any, one at a time, under
  * the caller's lock. */
-uint32_t wethlorn_draw_indexed_indirect(wethlorn_device *device, uint32_t who, uint64_t encoder,
-    uint32_t pass, uint64_t buffer, uint64_t offset, wethlorn_reply *out);
+uint32_t wethlorn_draw_indexed_indirect(wethlorn_device *device, uint64_t encoder, uint32_t pass,
+    uint64_t buffer, uint64_t offset, wethlorn_reply *out);
 
 /* Begins an occlusion query (beginOcclusionQuery). Status: OK, NO_MEMORY, NO_OBJECT, CLOSED, NO_PASS.
  * Owner: the device keeps what it makes; the arguments stay the caller's. Thread: any, one at a time,
  * under the caller's lock. */
-uint32_t wethlorn_begin_occlusion_query(wethlorn_device *device, uint32_t who, uint64_t encoder,
-    uint32_t pass, uint32_t index, wethlorn_reply *out);
+uint32_t wethlorn_begin_occlusion_query(wethlorn_device *device, uint64_t encoder, uint32_t pass,
+    uint32_t index, wethlorn_reply *out);
 
 /* Ends the occlusion query that was begun last (endOcclusionQuery). Status: OK, NO_MEMORY, NO_OBJECT,
  * CLOSED, NO_PASS. Owner: the arguments stay the caller's. Thread: any, one at a time, under the caller's
  * lock. */
-uint32_t wethlorn_end_occlusion_query(wethlorn_device *device, uint32_t who, uint64_t encoder, uint32_t pass,
+uint32_t wethlorn_end_occlusion_query(wethlorn_device *device, uint64_t encoder, uint32_t pass,
     wethlorn_reply *out);
 
 /* Executes bundles in a render pass, one after another (executeBundles). Status: OK, NO_MEMORY, NO_OBJECT,
  * CLOSED, NO_PASS. Owner: the arguments stay the caller's. Thread: any, one at a time, under the caller's
  * lock. */
-uint32_t wethlorn_execute_bundles(wethlorn_device *device, uint32_t who, uint64_t encoder, uint32_t pass,
+uint32_t wethlorn_execute_bundles(wethlorn_device *device, uint64_t encoder, uint32_t pass,
     const uint64_t *bundles, size_t bundles_count, wethlorn_reply *out);
 
 /* ---- Drains. What calls add to the trace and what they settle waits in the device until it is told. Each is
  * told once and in order, and a driver does the items in that order. When all are told the list is emptied and
- * keeps its memory, so a drain takes none. ---- */
+ * keeps its memory, so a drain takes none. The recordings of command buffers that were submitted, and what was known
+ * of objects that nobody can reach any more, wait too: the next drain of items drops them, and no other call. ---- */
 
 /* Tells the next item of the trace. Status: OK, END, CLOSED. Owner: `out` is the caller's. Thread: any,
  * one at a time, under the caller's lock. */
@@ -896,6 +971,14 @@ uint32_t wethlorn_item_use(wethlorn_device *device, size_t at, wethlorn_use *out
 /* Tells an access of the item that was told last, by its index from 0, in the same way. Status: OK, END,
  * CLOSED. Owner: `out` is the caller's. Thread: any, one at a time, under the caller's lock. */
 uint32_t wethlorn_item_access(wethlorn_device *device, size_t at, wethlorn_access *out);
+
+/* Tells the first bytes of a buffer, of those from `from` up to but not including `to`, that are unset after all calls
+ * so far, as many as stand together: those that no step of the trace has written, or that a page has yet to see as zero.
+ * END: there are none, or the range is empty. The next ones are told by a call from the end of what was told. Of what is
+ * no buffer, or past its end, all is unset. It takes no memory and changes nothing. Status: OK, END, NO_OBJECT, CLOSED.
+ * Owner: `out` is the caller's. Thread: any, one at a time, under the caller's lock. */
+uint32_t wethlorn_unset_range(wethlorn_device *device, uint64_t buffer, uint64_t from, uint64_t to,
+    wethlorn_bytes *out);
 
 /* Tells the next promise that was settled. Status: OK, END, CLOSED. Owner: `out` is the caller's. Thread:
  * any, one at a time, under the caller's lock. */

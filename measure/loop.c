@@ -28,7 +28,7 @@
 #include <string.h>
 #include <sys/resource.h>
 
-enum { ME = 0, SIZE = 64, PART = 16, KEPT = 1000, BEHIND = 3, ROOM = 1024 };
+enum { SIZE = 64, PART = 16, KEPT = 1000, BEHIND = 3, ROOM = 1024 };
 
 /* A device, and what was asked of it. `due` has the operations of the last rounds, in turn. */
 typedef struct driven {
@@ -72,29 +72,29 @@ static void drain(driven *it) {
 static uint64_t make_buffer(driven *it, wethlorn_buffer_usage usage) {
     wethlorn_buffer_desc desc = {.size = SIZE, .usage = usage};
     wethlorn_reply reply = {0};
-    return given(it, "createBuffer", wethlorn_create_buffer(&it->device, ME, &desc, &reply), &reply);
+    return given(it, "createBuffer", wethlorn_create_buffer(&it->device, &desc, &reply), &reply);
 }
 
 static uint64_t make_encoder(driven *it) {
     wethlorn_reply reply = {0};
-    return given(it, "createCommandEncoder", wethlorn_create_encoder(&it->device, ME, &reply), &reply);
+    return given(it, "createCommandEncoder", wethlorn_create_encoder(&it->device, &reply), &reply);
 }
 
 static void copy(driven *it, uint64_t encoder, uint64_t source, uint64_t target) {
     wethlorn_buffer_copy copy = {.source = source, .target = target, .size = PART};
     wethlorn_reply reply = {0};
-    given(it, "copyBufferToBuffer", wethlorn_copy_buffer_to_buffer(&it->device, ME, encoder, &copy, &reply), &reply);
+    given(it, "copyBufferToBuffer", wethlorn_copy_buffer_to_buffer(&it->device, encoder, &copy, &reply), &reply);
 }
 
 static uint64_t finish(driven *it, uint64_t encoder) {
     wethlorn_reply reply = {0};
-    return given(it, "finish", wethlorn_finish(&it->device, ME, encoder, &reply), &reply);
+    return given(it, "finish", wethlorn_finish(&it->device, encoder, &reply), &reply);
 }
 
 /* The operation of a submit. */
 static uint64_t submit(driven *it, uint64_t buffer) {
     wethlorn_reply reply = {0};
-    uint64_t op = given(it, "submit", wethlorn_submit(&it->device, ME, &buffer, 1, &reply), &reply);
+    uint64_t op = given(it, "submit", wethlorn_submit(&it->device, &buffer, 1, &reply), &reply);
     drain(it);
     return op;
 }
@@ -102,26 +102,26 @@ static uint64_t submit(driven *it, uint64_t buffer) {
 /* The operation of a write. */
 static uint64_t write_buffer(driven *it, uint64_t buffer) {
     wethlorn_reply reply = {0};
-    uint64_t op = given(it, "writeBuffer", wethlorn_write_buffer(&it->device, ME, buffer, 0, PART, &reply), &reply);
+    uint64_t op = given(it, "writeBuffer", wethlorn_write_buffer(&it->device, buffer, 0, PART, &reply), &reply);
     drain(it);
     return op;
 }
 
 static void complete(driven *it, uint64_t op) {
     wethlorn_reply reply = {0};
-    given(it, "complete", wethlorn_complete(&it->device, ME, op, &reply), &reply);
+    given(it, "complete", wethlorn_complete(&it->device, op, &reply), &reply);
     drain(it);
 }
 
 static void destroy(driven *it, uint64_t object) {
     wethlorn_reply reply = {0};
-    given(it, "destroy", wethlorn_destroy(&it->device, ME, object, &reply), &reply);
+    given(it, "destroy", wethlorn_destroy(&it->device, object, &reply), &reply);
     drain(it);
 }
 
 static void drop(driven *it, uint64_t object) {
     wethlorn_reply reply = {0};
-    given(it, "drop", wethlorn_drop(&it->device, ME, object, &reply), &reply);
+    given(it, "drop", wethlorn_drop(&it->device, object, &reply), &reply);
 }
 
 /* Drops the buffer of a round after it was destroyed, but for those that are kept, of all rounds so many and as far apart as may be. */
@@ -177,7 +177,7 @@ static uint64_t make_layout(driven *it) {
         {.binding = 1, .visibility = WETHLORN_VISIBILITY_COMPUTE, .holds = {.kind = WETHLORN_BIND_UNIFORM}},
     };
     wethlorn_reply reply = {0};
-    return given(it, "createBindGroupLayout", wethlorn_create_bind_group_layout(&it->device, ME, entries, 2, &reply), &reply);
+    return given(it, "createBindGroupLayout", wethlorn_create_bind_group_layout(&it->device, entries, 2, &reply), &reply);
 }
 
 static uint64_t make_group(driven *it, uint64_t layout, uint64_t storage, uint64_t uniform) {
@@ -186,7 +186,7 @@ static uint64_t make_group(driven *it, uint64_t layout, uint64_t storage, uint64
         {.binding = 1, .bound = WETHLORN_BOUND_BUFFER, .object = uniform, .size = WETHLORN_NONE},
     };
     wethlorn_reply reply = {0};
-    return given(it, "createBindGroup", wethlorn_create_bind_group(&it->device, ME, layout, entries, 2, &reply), &reply);
+    return given(it, "createBindGroup", wethlorn_create_bind_group(&it->device, layout, entries, 2, &reply), &reply);
 }
 
 /* A compute pipeline whose shader uses both buffers of the layout. */
@@ -196,35 +196,35 @@ static uint64_t make_pipeline(driven *it, uint64_t layout) {
         {.binding = 1, .stage = WETHLORN_STAGE_COMPUTE, .holds = {.kind = WETHLORN_BIND_UNIFORM}},
     };
     wethlorn_reply reply = {0};
-    uint64_t whole = given(it, "createPipelineLayout", wethlorn_create_pipeline_layout(&it->device, ME, &layout, 1, &reply), &reply);
-    return given(it, "createComputePipeline", wethlorn_create_compute_pipeline(&it->device, ME, whole, uses, 2, &reply), &reply);
+    uint64_t whole = given(it, "createPipelineLayout", wethlorn_create_pipeline_layout(&it->device, &layout, 1, &reply), &reply);
+    return given(it, "createComputePipeline", wethlorn_create_compute_pipeline(&it->device, whole, uses, 2, &reply), &reply);
 }
 
 static void set_pipeline(driven *it, uint64_t encoder, uint32_t pass, uint64_t pipeline) {
     wethlorn_reply reply = {0};
-    given(it, "setPipeline", wethlorn_set_pipeline(&it->device, ME, encoder, pass, pipeline, &reply), &reply);
+    given(it, "setPipeline", wethlorn_set_pipeline(&it->device, encoder, pass, pipeline, &reply), &reply);
 }
 
 static void set_bind_group(driven *it, uint64_t encoder, uint32_t pass, uint64_t group) {
     uint32_t none = 0;
     wethlorn_reply reply = {0};
-    given(it, "setBindGroup", wethlorn_set_bind_group(&it->device, ME, encoder, pass, 0, group, &none, 0, &reply), &reply);
+    given(it, "setBindGroup", wethlorn_set_bind_group(&it->device, encoder, pass, 0, group, &none, 0, &reply), &reply);
 }
 
 static void dispatch(driven *it, uint64_t encoder, uint32_t pass) {
     wethlorn_reply reply = {0};
-    given(it, "dispatchWorkgroups", wethlorn_dispatch(&it->device, ME, encoder, pass, 1, 1, 1, &reply), &reply);
+    given(it, "dispatchWorkgroups", wethlorn_dispatch(&it->device, encoder, pass, 1, 1, 1, &reply), &reply);
 }
 
 static uint32_t begin_pass(driven *it, uint64_t encoder) {
     wethlorn_reply reply = {0};
-    given(it, "beginComputePass", wethlorn_begin_compute_pass(&it->device, ME, encoder, &reply), &reply);
+    given(it, "beginComputePass", wethlorn_begin_compute_pass(&it->device, encoder, &reply), &reply);
     return reply.pass;
 }
 
 static void end_pass(driven *it, uint64_t encoder, uint32_t pass) {
     wethlorn_reply reply = {0};
-    given(it, "end", wethlorn_end(&it->device, ME, encoder, pass, &reply), &reply);
+    given(it, "end", wethlorn_end(&it->device, encoder, pass, &reply), &reply);
 }
 
 static void dispatches(driven *it, uint64_t count) {
@@ -261,7 +261,7 @@ static void undrained(driven *it, uint64_t count) {
     uint64_t buffer = make_buffer(it, WETHLORN_BUFFER_USAGE_COPY_DST);
     for (uint64_t at = 0; at < count; at++) {
         wethlorn_reply reply = {0};
-        given(it, "writeBuffer", wethlorn_write_buffer(&it->device, ME, buffer, 0, PART, &reply), &reply);
+        given(it, "writeBuffer", wethlorn_write_buffer(&it->device, buffer, 0, PART, &reply), &reply);
     }
 }
 
@@ -320,9 +320,10 @@ static const struct {
 /* Opens a device, drives it by calls of a kind, and prints what there was. */
 static int driven_by(size_t kind, uint64_t count) {
     driven it = {.calls = 0};
+    wethlorn_bad_limit bad;
     wethlorn_left left;
     struct rusage used;
-    if (wethlorn_open(UINT64_C(1) << 40, 1, NULL, 0, &it.device) != WETHLORN_OK)
+    if (wethlorn_open(UINT64_C(1) << 40, 1, NULL, 0, NULL, 0, &it.device, &bad) != WETHLORN_OK)
         return 1;
     KINDS[kind].drive(&it, count);
     if (getrusage(RUSAGE_SELF, &used) || wethlorn_close(&it.device, &left) != WETHLORN_OK)

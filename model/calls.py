@@ -21,6 +21,7 @@ THREE = "three whole numbers of 32 bits"
 WORDS32 = "list of whole numbers of 32 bits"
 FLAG = "false or true"
 NAME = "name that is given"
+LABEL = "label"
 
 # Sorts of values that use names: what each may stand for.
 BUFFER = ("name", ("buffer",))
@@ -76,6 +77,9 @@ ON_DRAWN = ("on", DRAWN_ON, NEEDED)
 ON_SET = ("on", SET_ON, NEEDED)
 ON_ANY = ("on", ANY_PLACE, NEEDED)
 AS = ("as", NAME, NEEDED)
+# A label stands before the name that a call gives, and no rule of a device looks at it.
+LABELED = ("label", LABEL, "")
+NAMED = [LABELED, AS]
 
 SAMPLER_WORDS = ("filtering", "non-filtering", "comparison")
 CANVAS_FORMATS = ("rgba8unorm", "bgra8unorm", "rgba16float")
@@ -166,33 +170,33 @@ WITH_NAMES = ("name", "name or auto", "names", "object", "objects", "objects or 
 ONE_NAME = ("name", "name or auto")
 
 CALLS: Dict[str, List[Key]] = {
-    "createBuffer": [("size", WHOLE, NEEDED), ("usage", WORD32, NEEDED), ("mapped", FLAG, False), AS],
+    "createBuffer": [("size", WHOLE, NEEDED), ("usage", WORD32, NEEDED), ("mapped", FLAG, False), *NAMED],
     "createTexture": [
         ("size", THREE, NEEDED), ("usage", WORD32, NEEDED), ("format", word(FORMATS), NEEDED), ("dim", word(TEXTURE_DIMS), "2d"),
-        ("mips", WORD32, 1), ("samples", WORD32, 1), AS,
+        ("mips", WORD32, 1), ("samples", WORD32, 1), *NAMED,
     ],
     "createView": [
         ("texture", TEXTURE, NEEDED), ("dim", word(VIEW_DIMS), None), ("aspect", word(ASPECT_WORDS), "all"), ("baseMip", WORD32, 0),
-        ("mips", WORD32, None), ("baseLayer", WORD32, 0), ("layers", WORD32, None), AS,
+        ("mips", WORD32, None), ("baseLayer", WORD32, 0), ("layers", WORD32, None), *NAMED,
     ],
-    "createSampler": [("kind", word(SAMPLER_WORDS), "filtering"), AS],
-    "createBindGroupLayout": [("entries", LAYOUT_ENTRIES, NEEDED), AS],
-    "createPipelineLayout": [("layouts", GROUP_LAYOUTS, NEEDED), AS],
-    "createBindGroup": [("layout", GROUP_LAYOUT, NEEDED), ("entries", GROUP_ENTRIES, NEEDED), AS],
-    "createComputePipeline": [("layout", PIPELINE_LAYOUT_OR_AUTO, NEEDED), ("iface", IFACE_ENTRIES, ()), AS],
+    "createSampler": [("kind", word(SAMPLER_WORDS), "filtering"), *NAMED],
+    "createBindGroupLayout": [("entries", LAYOUT_ENTRIES, NEEDED), *NAMED],
+    "createPipelineLayout": [("layouts", GROUP_LAYOUTS, NEEDED), *NAMED],
+    "createBindGroup": [("layout", GROUP_LAYOUT, NEEDED), ("entries", GROUP_ENTRIES, NEEDED), *NAMED],
+    "createComputePipeline": [("layout", PIPELINE_LAYOUT_OR_AUTO, NEEDED), ("iface", IFACE_ENTRIES, ()), *NAMED],
     "createRenderPipeline": [
         ("layout", PIPELINE_LAYOUT_OR_AUTO, NEEDED), ("iface", RENDER_IFACE_ENTRIES, ()), ("buffers", VERTEX_BUFFERS, ()),
-        ("targets", FORMATS_OR_NULLS, ()), ("depth", DEPTH_STATE, None), ("samples", WORD32, 1), AS,
+        ("targets", FORMATS_OR_NULLS, ()), ("depth", DEPTH_STATE, None), ("samples", WORD32, 1), *NAMED,
     ],
-    "getBindGroupLayout": [("pipeline", PIPELINE, NEEDED), ("index", WORD32, NEEDED), AS],
-    "createQuerySet": [("count", WORD32, NEEDED), AS],
-    "createEncoder": [AS],
+    "getBindGroupLayout": [("pipeline", PIPELINE, NEEDED), ("index", WORD32, NEEDED), *NAMED],
+    "createQuerySet": [("count", WORD32, NEEDED), *NAMED],
+    "createEncoder": NAMED,
     "createBundleEncoder": [
         ("colors", FORMATS_OR_NULLS, NEEDED), ("depth", word(FORMATS), None), ("samples", WORD32, 1), ("depthReadOnly", FLAG, False),
-        ("stencilReadOnly", FLAG, False), AS,
+        ("stencilReadOnly", FLAG, False), *NAMED,
     ],
-    "finish": [ON, AS],
-    "finishBundle": [("on", BUNDLE_ENCODER, NEEDED), AS],
+    "finish": [ON, *NAMED],
+    "finishBundle": [("on", BUNDLE_ENCODER, NEEDED), *NAMED],
     "submit": [("buffers", COMMAND_BUFFERS, NEEDED)],
     "writeBuffer": [("buffer", BUFFER, NEEDED), ("offset", WHOLE, NEEDED), ("size", WHOLE, NEEDED)],
     "writeTexture": SPOT + LAYOUT + [("dataSize", WHOLE, NEEDED)],
@@ -220,8 +224,8 @@ CALLS: Dict[str, List[Key]] = {
         ON, ("queries", QUERIES, NEEDED), ("first", WORD32, NEEDED), ("count", WORD32, NEEDED), ("buffer", BUFFER, NEEDED),
         ("offset", WHOLE, NEEDED),
     ],
-    "beginComputePass": [ON, AS],
-    "beginRenderPass": [ON, ("colors", COLORS, NEEDED), ("depth", DEPTH, None), ("queries", QUERIES, None), AS],
+    "beginComputePass": [ON, *NAMED],
+    "beginRenderPass": [ON, ("colors", COLORS, NEEDED), ("depth", DEPTH, None), ("queries", QUERIES, None), *NAMED],
     "setPipeline": [ON_SET, ("pipeline", PIPELINE, NEEDED)],
     "setBindGroup": [ON_SET, ("index", WORD32, NEEDED), ("group", GROUP, NEEDED), ("offsets", WORDS32, ())],
     "dispatch": [ON_COMPUTE, ("x", WORD32, NEEDED), ("y", WORD32, 1), ("z", WORD32, 1)],
@@ -235,6 +239,7 @@ CALLS: Dict[str, List[Key]] = {
     ],
     "drawIndexed": [
         ON_DRAWN, ("indices", WORD32, NEEDED), ("instances", WORD32, 1), ("firstIndex", WORD32, 0), ("firstInstance", WORD32, 0),
+        ("baseVertex", WORD32, 0),
     ],
     "drawIndirect": [ON_DRAWN, ("buffer", BUFFER, NEEDED), ("offset", WHOLE, NEEDED)],
     "drawIndexedIndirect": [ON_DRAWN, ("buffer", BUFFER, NEEDED), ("offset", WHOLE, NEEDED)],
@@ -242,11 +247,11 @@ CALLS: Dict[str, List[Key]] = {
     "endOcclusionQuery": [ON_RENDER],
     "executeBundles": [ON_RENDER, ("bundles", BUNDLES, NEEDED)],
     "end": [ON_PASS],
-    "pushDebugGroup": [ON_ANY],
+    "pushDebugGroup": [ON_ANY, LABELED],
     "popDebugGroup": [ON_ANY],
     "createCanvas": [("width", WORD32, NEEDED), ("height", WORD32, NEEDED), AS],
     "configureCanvas": [("canvas", CANVAS, NEEDED), ("format", word(CANVAS_FORMATS), NEEDED), ("usage", WORD32, 16)],
-    "currentTexture": [("canvas", CANVAS, NEEDED), AS],
+    "currentTexture": [("canvas", CANVAS, NEEDED), *NAMED],
     "present": [("canvas", CANVAS, NEEDED)],
 }
 

@@ -9,7 +9,7 @@ from __future__ import annotations
 from typing import TYPE_CHECKING, Any, Callable
 
 from . import json_text, limits, rules
-from .calls import CALLS, FLAG, KIND, NAME, NEEDED, ONE_NAME, THREE, WHOLE, WITH_KIND, WORD32, WORDS32
+from .calls import CALLS, FLAG, KIND, LABEL, NAME, NEEDED, ONE_NAME, THREE, WHOLE, WITH_KIND, WORD32, WORDS32
 
 if TYPE_CHECKING:
     from model.forms import Call
@@ -19,6 +19,7 @@ MOST_PHASES = 1_024
 MOST_LANES = 64
 MOST_CALLS = 65_536
 MOST_ITEMS = 1_024
+MOST_LABEL_BYTES = 256
 GREATEST_WHOLE = 2**53 - 1
 GREATEST_WORD32 = 2**32 - 1
 # Of each call the keys that it may have, and those that it has to have.
@@ -133,6 +134,10 @@ def read_value(place: tuple[Any, ...], where: str, sort: Any, value: Any) -> Any
     elif sort == WORDS32:
         ask_list(place, "numbers", value)
         ask(8, "numbers of 32 bits", all(is_whole(item, GREATEST_WORD32) for item in value), place)
+    elif sort == LABEL:
+        ask(8, "label", type(value) is str, place)
+        ask(8, "bytes of a label", len(value.encode()) <= MOST_LABEL_BYTES, place)
+        ask(8, "characters of a label", all(letter >= " " and letter != "\x7f" for letter in value), place)
     elif sort == NAME or sort[0] in ONE_NAME:
         ask(8, f"name{where}", type(value) is str, place)
     elif sort[0] == "word":

@@ -31,12 +31,12 @@ static uint64_t told(frame *it, const char *word, uint32_t status) {
 
 static uint64_t buffer(frame *it, uint64_t size, wethlorn_buffer_usage usage) {
     wethlorn_buffer_desc desc = {.size = size, .usage = usage};
-    return told(it, "createBuffer", wethlorn_create_buffer(&it->device, ME, &desc, &it->reply));
+    return told(it, "createBuffer", wethlorn_create_buffer(&it->device, &desc, &it->reply));
 }
 
 static uint64_t texture(frame *it, uint32_t side, wethlorn_texture_usage usage, uint32_t format, uint32_t mips, uint32_t samples) {
     wethlorn_texture_desc desc = {.size = {side, side, 1}, .usage = usage, .format = format, .dim = WETHLORN_2D, .mips = mips, .samples = samples};
-    return told(it, "createTexture", wethlorn_create_texture(&it->device, ME, &desc, &it->reply));
+    return told(it, "createTexture", wethlorn_create_texture(&it->device, &desc, &it->reply));
 }
 
 /* A view of some mip levels, or of all from `base` on where they are WETHLORN_NONE. */
@@ -44,7 +44,7 @@ static uint64_t view(frame *it, uint64_t of, uint32_t base, uint64_t mips) {
     wethlorn_view_desc desc = WETHLORN_VIEW_DESC_INIT;
     desc.mips = mips;
     desc.base_mip = base;
-    return told(it, "createView", wethlorn_create_view(&it->device, ME, of, &desc, &it->reply));
+    return told(it, "createView", wethlorn_create_view(&it->device, of, &desc, &it->reply));
 }
 
 static wethlorn_binding sampled(uint32_t sample) {
@@ -57,18 +57,18 @@ static wethlorn_binding storage(void) {
 
 static uint64_t layout(frame *it, wethlorn_visibility visibility, wethlorn_binding holds) {
     wethlorn_layout_entry entry = {.visibility = visibility, .holds = holds};
-    return told(it, "createBindGroupLayout", wethlorn_create_bind_group_layout(&it->device, ME, &entry, 1, &it->reply));
+    return told(it, "createBindGroupLayout", wethlorn_create_bind_group_layout(&it->device, &entry, 1, &it->reply));
 }
 
 static uint64_t pipeline_layout(frame *it, const uint64_t *layouts, size_t count) {
-    return told(it, "createPipelineLayout", wethlorn_create_pipeline_layout(&it->device, ME, layouts, count, &it->reply));
+    return told(it, "createPipelineLayout", wethlorn_create_pipeline_layout(&it->device, layouts, count, &it->reply));
 }
 
 static uint64_t group(frame *it, uint64_t of, uint32_t bound, uint64_t object) {
     wethlorn_group_entry entry = WETHLORN_GROUP_ENTRY_INIT;
     entry.object = object;
     entry.bound = bound;
-    return told(it, "createBindGroup", wethlorn_create_bind_group(&it->device, ME, of, &entry, 1, &it->reply));
+    return told(it, "createBindGroup", wethlorn_create_bind_group(&it->device, of, &entry, 1, &it->reply));
 }
 
 static void make_resources(frame *it) {
@@ -112,7 +112,7 @@ static uint64_t render_pipeline(frame *it, wethlorn_render_desc desc, size_t int
     wethlorn_vertex_buffer points = {.stride = 16, .step = WETHLORN_STEP_PER_VERTEX};
     wethlorn_vertex_attribute place = {.format = WETHLORN_VERTEX_FLOAT32X3};
     uint32_t target = WETHLORN_RGBA8_UNORM;
-    return told(it, "createRenderPipeline", wethlorn_create_render_pipeline(&it->device, ME, &desc, &interface, interfaces,
+    return told(it, "createRenderPipeline", wethlorn_create_render_pipeline(&it->device, &desc, &interface, interfaces,
         &points, buffers, &place, buffers, &target, targets, &it->reply));
 }
 
@@ -124,7 +124,7 @@ static void make_pipelines(frame *it) {
     it->mip_pipeline = render_pipeline(it, mips, 1, 0, 1);
     it->shadow_pipeline = render_pipeline(it, shadow, 0, 1, 0);
     it->scene_pipeline = render_pipeline(it, scene, 0, 1, 1);
-    it->sum_pipeline = told(it, "createComputePipeline", wethlorn_create_compute_pipeline(&it->device, ME, it->sum, &sums, 1, &it->reply));
+    it->sum_pipeline = told(it, "createComputePipeline", wethlorn_create_compute_pipeline(&it->device, it->sum, &sums, 1, &it->reply));
 }
 
 static void upload(frame *it) {
@@ -134,31 +134,31 @@ static void upload(frame *it) {
         .size = {4, 4, 1},
         .data_size = 64,
     };
-    told(it, "writeBuffer", wethlorn_write_buffer(&it->device, ME, it->vertices, 0, 96, &it->reply));
-    told(it, "writeTexture", wethlorn_write_texture(&it->device, ME, &write, &it->reply));
+    told(it, "writeBuffer", wethlorn_write_buffer(&it->device, it->vertices, 0, 96, &it->reply));
+    told(it, "writeTexture", wethlorn_write_texture(&it->device, &write, &it->reply));
 }
 
 /* Commands make no entry of the report: a finish answers for all of them. */
 static void set_pipeline(frame *it, uint32_t pass, uint64_t pipeline) {
-    told(it, "setPipeline", wethlorn_set_pipeline(&it->device, ME, it->encoder, pass, pipeline, &it->reply));
+    told(it, "setPipeline", wethlorn_set_pipeline(&it->device, it->encoder, pass, pipeline, &it->reply));
 }
 
 static void set_group(frame *it, uint32_t pass, uint32_t index, uint64_t bound) {
     uint32_t no_offsets = 0;
-    told(it, "setBindGroup", wethlorn_set_bind_group(&it->device, ME, it->encoder, pass, index, bound, &no_offsets, 0, &it->reply));
+    told(it, "setBindGroup", wethlorn_set_bind_group(&it->device, it->encoder, pass, index, bound, &no_offsets, 0, &it->reply));
 }
 
 static void draw_points(frame *it, uint32_t pass) {
-    told(it, "setVertexBuffer", wethlorn_set_vertex_buffer(&it->device, ME, it->encoder, pass, 0, it->vertices, 0, WETHLORN_NONE, &it->reply));
-    told(it, "draw", wethlorn_draw(&it->device, ME, it->encoder, pass, 6, 1, 0, 0, &it->reply));
+    told(it, "setVertexBuffer", wethlorn_set_vertex_buffer(&it->device, it->encoder, pass, 0, it->vertices, 0, WETHLORN_NONE, &it->reply));
+    told(it, "draw", wethlorn_draw(&it->device, it->encoder, pass, 6, 1, 0, 0, &it->reply));
 }
 
 static void end(frame *it, uint32_t pass) {
-    told(it, "end", wethlorn_end(&it->device, ME, it->encoder, pass, &it->reply));
+    told(it, "end", wethlorn_end(&it->device, it->encoder, pass, &it->reply));
 }
 
 static uint32_t begin(frame *it, wethlorn_color color, size_t colors, wethlorn_depth depth) {
-    told(it, "beginRenderPass", wethlorn_begin_render_pass(&it->device, ME, it->encoder, &color, colors, &depth, WETHLORN_NONE, &it->reply));
+    told(it, "beginRenderPass", wethlorn_begin_render_pass(&it->device, it->encoder, &color, colors, &depth, WETHLORN_NONE, &it->reply));
     return it->reply.pass;
 }
 
@@ -171,7 +171,7 @@ static void record_mip(frame *it) {
     uint32_t pass = begin(it, level, 1, none);
     set_pipeline(it, pass, it->mip_pipeline);
     set_group(it, pass, 0, it->level0_group);
-    told(it, "draw", wethlorn_draw(&it->device, ME, it->encoder, pass, 3, 1, 0, 0, &it->reply));
+    told(it, "draw", wethlorn_draw(&it->device, it->encoder, pass, 3, 1, 0, 0, &it->reply));
     end(it, pass);
 }
 
@@ -197,32 +197,33 @@ static void record_scene(frame *it) {
 
 static void record_sum(frame *it) {
     wethlorn_buffer_copy copy = {.source = it->sums, .target = it->readback, .size = 256};
-    told(it, "beginComputePass", wethlorn_begin_compute_pass(&it->device, ME, it->encoder, &it->reply));
+    told(it, "beginComputePass", wethlorn_begin_compute_pass(&it->device, it->encoder, &it->reply));
     uint32_t pass = it->reply.pass;
     set_pipeline(it, pass, it->sum_pipeline);
     set_group(it, pass, 0, it->color_group);
     set_group(it, pass, 1, it->sums_group);
-    told(it, "dispatch", wethlorn_dispatch(&it->device, ME, it->encoder, pass, 1, 1, 1, &it->reply));
+    told(it, "dispatch", wethlorn_dispatch(&it->device, it->encoder, pass, 1, 1, 1, &it->reply));
     end(it, pass);
-    told(it, "copyBufferToBuffer", wethlorn_copy_buffer_to_buffer(&it->device, ME, it->encoder, &copy, &it->reply));
+    told(it, "copyBufferToBuffer", wethlorn_copy_buffer_to_buffer(&it->device, it->encoder, &copy, &it->reply));
 }
 
 static void draw_frame(frame *it) {
-    it->encoder = told(it, "createEncoder", wethlorn_create_encoder(&it->device, ME, &it->reply));
+    it->encoder = told(it, "createEncoder", wethlorn_create_encoder(&it->device, &it->reply));
     record_mip(it);
     record_shadow(it);
     record_scene(it);
     record_sum(it);
-    it->commands = told(it, "finish", wethlorn_finish(&it->device, ME, it->encoder, &it->reply));
-    uint64_t operation = told(it, "submit", wethlorn_submit(&it->device, ME, &it->commands, 1, &it->reply));
-    told(it, "mapAsync", wethlorn_map_async(&it->device, ME, it->readback, WETHLORN_MAP_MODE_READ, 0, WETHLORN_NONE, &it->reply));
-    told(it, "complete", wethlorn_complete(&it->device, ME, operation, &it->reply));
+    it->commands = told(it, "finish", wethlorn_finish(&it->device, it->encoder, &it->reply));
+    uint64_t operation = told(it, "submit", wethlorn_submit(&it->device, &it->commands, 1, &it->reply));
+    told(it, "mapAsync", wethlorn_map_async(&it->device, it->readback, WETHLORN_MAP_MODE_READ, 0, WETHLORN_NONE, &it->reply));
+    told(it, "complete", wethlorn_complete(&it->device, operation, &it->reply));
 }
 
 int main(void) {
     frame it = {.device = {0}};
+    wethlorn_bad_limit bad;
     wethlorn_left left = {0};
-    if (!report_begin(&it.report) || wethlorn_open(1000000, 1, NULL, 0, &it.device))
+    if (!report_begin(&it.report) || wethlorn_open(1000000, 1, NULL, 0, NULL, 0, &it.device, &bad))
         return 1;
     make_resources(&it);
     make_groups(&it);

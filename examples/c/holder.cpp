@@ -1,5 +1,6 @@
 // A device that is closed by its destructor, in C++17. It makes a buffer, writes it, breaks a rule, and tells what a driver has to do.
 #include "wethlorn.h"
+#include "wethlorn_rules.h"
 #include <iostream>
 #include <new>
 #include <stdexcept>
@@ -7,7 +8,8 @@
 class Device {
 public:
     explicit Device(uint64_t budget) {
-        check(wethlorn_open(budget, ++serials, nullptr, 0, &device));
+        wethlorn_bad_limit bad;
+        check(wethlorn_open(budget, ++serials, nullptr, 0, nullptr, 0, &device, &bad));
     }
     ~Device() {
         wethlorn_left left;
@@ -19,12 +21,12 @@ public:
     wethlorn_reply createBuffer(uint64_t size, wethlorn_buffer_usage usage) {
         const wethlorn_buffer_desc desc = {size, usage, 0};
         wethlorn_reply reply = {};
-        check(wethlorn_create_buffer(&device, 0, &desc, &reply));
+        check(wethlorn_create_buffer(&device, &desc, &reply));
         return reply;
     }
     wethlorn_reply writeBuffer(uint64_t buffer, uint64_t offset, uint64_t size) {
         wethlorn_reply reply = {};
-        check(wethlorn_write_buffer(&device, 0, buffer, offset, size, &reply));
+        check(wethlorn_write_buffer(&device, buffer, offset, size, &reply));
         return reply;
     }
     bool nextItem(wethlorn_item &item) { return wethlorn_next_item(&device, &item) == WETHLORN_OK; }
@@ -46,7 +48,8 @@ int main() {
     const wethlorn_reply buffer = device.createBuffer(16, WETHLORN_BUFFER_USAGE_COPY_DST | WETHLORN_BUFFER_USAGE_VERTEX);
     const wethlorn_reply written = device.writeBuffer(buffer.number, 0, 16);
     const wethlorn_reply beyond = device.writeBuffer(buffer.number, 16, 16);
-    std::cout << "buffer " << buffer.number << ", operation " << written.number << ", rule " << beyond.rule << "\n";
+    std::cout << "buffer " << buffer.number << ", operation " << written.number << "\n";
+    std::cout << "rule " << beyond.rule << ": " << wethlorn_rule_text(beyond.rule) << "\n";
     for (wethlorn_item item; device.nextItem(item);)
         std::cout << "step " << item.name << " of operation " << item.place << ", accesses " << item.accesses << "\n";
     try {

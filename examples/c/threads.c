@@ -18,11 +18,10 @@ typedef struct shared {
     uint64_t objects, calls, steps, releases, refused;
 } shared;
 
-/* A thread, with its number, which is that of the caller too. */
+/* A thread. */
 typedef struct worker {
     pthread_t thread;
     shared *shared;
-    uint32_t number;
     uint64_t rounds;
 } worker;
 
@@ -56,21 +55,21 @@ static void count(shared *it, uint32_t status, const wethlorn_reply *reply) {
     drain(it);
 }
 
-static uint64_t make(shared *it, uint32_t who) {
+static uint64_t make(shared *it) {
     wethlorn_buffer_desc desc = {.size = SIZE, .usage = WETHLORN_BUFFER_USAGE_COPY_DST};
     wethlorn_reply reply = {.number = 0};
     pthread_mutex_lock(&it->lock);
-    count(it, wethlorn_create_buffer(&it->device, who, &desc, &reply), &reply);
+    count(it, wethlorn_create_buffer(&it->device, &desc, &reply), &reply);
     if (reply.answer != WETHLORN_MADE || !reply.valid || reply.number >= it->objects || it->made[reply.number]++)
         refuse(it, "an object was not made, or its number was given before");
     pthread_mutex_unlock(&it->lock);
     return reply.number;
 }
 
-static uint64_t write_it(shared *it, uint32_t who, uint64_t buffer) {
+static uint64_t write_it(shared *it, uint64_t buffer) {
     wethlorn_reply reply = {.number = 0};
     pthread_mutex_lock(&it->lock);
-    count(it, wethlorn_write_buffer(&it->device, who, buffer, 0, SIZE, &reply), &reply);
+    count(it, wethlorn_write_buffer(&it->device, buffer, 0, SIZE, &reply), &reply);
     if (reply.answer != WETHLORN_QUEUED)
         refuse(it, "a write was not queued");
     pthread_mutex_unlock(&it->lock);
@@ -78,20 +77,20 @@ static uint64_t write_it(shared *it, uint32_t who, uint64_t buffer) {
 }
 
 /* The calls whose reply tells nothing that is used here. A completion may come after that of a later operation. */
-static void call(shared *it, uint32_t who, uint64_t number, uint32_t (*function)(wethlorn_device *, uint32_t, uint64_t, wethlorn_reply *)) {
+static void call(shared *it, uint64_t number, uint32_t (*function)(wethlorn_device *, uint64_t, wethlorn_reply *)) {
     wethlorn_reply reply = {.number = 0};
     pthread_mutex_lock(&it->lock);
-    count(it, function(&it->device, who, number, &reply), &reply);
+    count(it, function(&it->device, number, &reply), &reply);
     pthread_mutex_unlock(&it->lock);
 }
 
 static void *work(void *given) {
     worker *it = given;
     for (uint64_t round = 0; round < it->rounds; round++) {
-        uint64_t buffer = make(it->shared, it->number), operation = write_it(it->shared, it->number, buffer);
-        call(it->shared, it->number, buffer, wethlorn_destroy);
-        call(it->shared, it->number, operation, wethlorn_complete);
-        call(it->shared, it->number, buffer, wethlorn_drop);
+        uint64_t buffer = make(it->shared), operation = write_it(it->shared, buffer);
+        call(it->shared, buffer, wethlorn_destroy);
+        call(it->shared, operation, wethlorn_complete);
+        call(it->shared, buffer, wethlorn_drop);
     }
     return NULL;
 }
@@ -99,7 +98,7 @@ static void *work(void *given) {
 /* A number that was dropped names nothing, and a call of it does nothing. */
 static void try_dropped(shared *it) {
     wethlorn_reply reply;
-    if (it->objects && wethlorn_destroy(&it->device, 0, it->objects - 1, &reply) != WETHLORN_NO_OBJECT)
+    if (it->objects && wethlorn_destroy(&it->device, it->objects - 1, &reply) != WETHLORN_NO_OBJECT)
         refuse(it, "a dropped object was found");
     drain(it);
 }
@@ -108,13 +107,16 @@ int main(int words, char **word) {
     uint64_t rounds = (words > 1 ? strtoull(word[1], NULL, 10) : 1000000) / THREADS / CALLS_OF_A_ROUND;
     shared it = {.objects = rounds * THREADS};
     worker workers[THREADS];
+    wethlorn_bad_limit bad;
     wethlorn_left left = {0};
     it.made = calloc(it.objects + 1, 1);
     it.released = calloc(it.objects + 1, 1);
-    if (!it.made || !it.released || pthread_mutex_init(&it.lock, NULL) || wethlorn_open(UINT64_C(1) << 40, 1, NULL, 0, &it.device))
+    if (!it.made || !it.released || pthread_mutex_init(&it.lock, NULL))
+        return 1;
+    if (wethlorn_open(UINT64_C(1) << 40, 1, NULL, 0, NULL, 0, &it.device, &bad))
         return 1;
     for (uint32_t number = 0; number < THREADS; number++) {
-        workers[number] = (worker){.shared = &it, .number = number, .rounds = rounds};
+        workers[number] = (worker){.shared = &it, .rounds = rounds};
         if (pthread_create(&workers[number].thread, NULL, work, &workers[number]))
             return 1;
     }

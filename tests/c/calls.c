@@ -145,7 +145,7 @@ static wethlorn_spot spot(player *p, const json_t *call) {
     return it;
 }
 
-#define DEVICE &p->device, p->who
+#define DEVICE &p->device
 #define N32(key, otherwise) ((uint32_t)number(call, key, otherwise))
 #define SIZE number(call, "size", WETHLORN_NONE)
 /* The encoder and the pass, or the encoder alone, that the call stands on. */
@@ -154,6 +154,7 @@ static wethlorn_spot spot(player *p, const json_t *call) {
 
 static void open_device(player *p, const json_t *script, uint64_t serial) {
     static wethlorn_limit limits[ITEMS];
+    wethlorn_bad_limit bad;
     size_t count = 0;
     const char *key;
     json_t *value;
@@ -163,7 +164,7 @@ static void open_device(player *p, const json_t *script, uint64_t serial) {
         limits[count++].value = (uint64_t)json_integer_value(value);
         json_decref(name);
     }
-    CALL(p, wethlorn_open(number(script, "budget", 0), serial, limits, count, &p->device));
+    CALL(p, wethlorn_open(number(script, "budget", 0), serial, NULL, 0, limits, count, &p->device, &bad));
 }
 
 static void create_buffer(player *p, const json_t *call) {

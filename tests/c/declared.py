@@ -22,7 +22,7 @@ def of_header(text):
     for name, given in re.findall(r"uint32_t (wethlorn_\w+)\((.*?)\);", text, re.S):
         found = re.findall(r"(const )?(\w+) (\*?)(\w+)(?:,|$)", " ".join(given.split()))
         functions[name] = [(each, ("*const " if const else "*mut ") * bool(star) + name_of(kind)) for const, kind, star, each in found]
-    numbers = {name: int(value) for name, value in re.findall(r"WETHLORN_(\w+) = (\d+)", text)}
+    numbers = {name: int(value) for name, value in re.findall(r"WETHLORN_(\w+)(?: = | UINT64_C\()(\d+)", text)}
     return structs, functions, numbers
 
 
@@ -55,9 +55,9 @@ def of_rust(text):
     structs, functions = {}, {}
     for name, body in re.findall(r"pub struct (\w+) \{(.*?)\n\}", text, re.S):
         structs[name] = re.findall(r"pub (\w+): ([\w* ]+),", body)
-    for name, given in re.findall(r"pub fn (wethlorn_\w+)\((.*?)\) -> u32;", text, re.S):
+    for name, given in re.findall(r"pub fn (wethlorn_\w+)\((.*?)\)\s+-> u32;", text, re.S):
         functions[name] = re.findall(r"(\w+): ([\w* ]+)", given)
-    numbers = {name: int(value) for name, value in re.findall(r"pub const (\w+): u32 = (\d+);", text)}
+    numbers = {name: int(value) for name, value in re.findall(r"pub const (\w+): u(?:32|64) = (\d+);", text)}
     for kind, body in re.findall(r"^impl (\w+) \{(.*?)^\}", text, re.M | re.S):
         own = re.findall(r"const (\w+): Self = Self\((\d+)\);", body)
         numbers.update({in_header(f"{kind}::{name}"): int(value) for name, value in own})

@@ -1,11 +1,13 @@
-/* Calls at their edges: null pointers for lists of no elements, the version, what a close tells of what was not drained, and drains of
- * arrays.
+/* Calls at their edges: null pointers for lists of no elements, the version, what a close tells of what was not drained, drains of
+ * arrays, and unset bytes.
  * Status 0, or 1 where something is wrong, which standard error tells. */
 #include <wethlorn.h>
+#include <wethlorn_rules.h>
+#include <inttypes.h>
 #include <stdio.h>
 #include <string.h>
 
-enum { ME = 0, MOST = 32 };
+enum { MOST = 32 };
 
 /* What a list of no elements points to, of each type that a call has. */
 typedef struct lists {
@@ -43,6 +45,8 @@ static wethlorn_reply *next(played *it) {
 /* The number that the last call gave, which has to have been made without a fault. */
 static uint64_t given(const played *it, uint32_t status, const char *what) {
     const wethlorn_reply *reply = &it->replies[it->count - 1];
+    if (status == WETHLORN_OK && reply->fault)
+        fprintf(stderr, "rule %" PRIu32 ": %s (WebGPU, %s)\n", reply->rule, wethlorn_rule_text(reply->rule), wethlorn_rule_section(reply->rule));
     check(status == WETHLORN_OK && !reply->fault && (reply->answer != WETHLORN_MADE || reply->valid), what);
     return reply->number;
 }
@@ -53,8 +57,8 @@ static uint64_t depth_view(played *it) {
     texture.size.width = 4;
     texture.usage = WETHLORN_TEXTURE_USAGE_RENDER_ATTACHMENT;
     texture.format = WETHLORN_DEPTH32_FLOAT;
-    uint64_t made = given(it, wethlorn_create_texture(&it->device, ME, &texture, next(it)), "createTexture");
-    return given(it, wethlorn_create_view(&it->device, ME, made, &view, next(it)), "createView");
+    uint64_t made = given(it, wethlorn_create_texture(&it->device, &texture, next(it)), "createTexture");
+    return given(it, wethlorn_create_view(&it->device, made, &view, next(it)), "createView");
 }
 
 /* A render pass without colors, in which a group without dynamic offsets is set and no bundle is executed, is submitted. */
@@ -64,13 +68,13 @@ static void draw(played *it, const lists *of, uint64_t group) {
     depth.view = depth_view(it);
     depth.depth_load = WETHLORN_LOAD;
     depth.depth_store = WETHLORN_STORE;
-    uint64_t encoder = given(it, wethlorn_create_encoder(device, ME, next(it)), "createCommandEncoder");
-    given(it, wethlorn_begin_render_pass(device, ME, encoder, of->colors, 0, &depth, WETHLORN_NONE, next(it)), "beginRenderPass");
-    given(it, wethlorn_set_bind_group(device, ME, encoder, 0, 0, group, of->numbers, 0, next(it)), "setBindGroup");
-    given(it, wethlorn_execute_bundles(device, ME, encoder, 0, of->objects, 0, next(it)), "executeBundles");
-    given(it, wethlorn_end(device, ME, encoder, 0, next(it)), "end");
-    uint64_t commands = given(it, wethlorn_finish(device, ME, encoder, next(it)), "finish");
-    given(it, wethlorn_submit(device, ME, &commands, 1, next(it)), "submit");
+    uint64_t encoder = given(it, wethlorn_create_encoder(device, next(it)), "createCommandEncoder");
+    given(it, wethlorn_begin_render_pass(device, encoder, of->colors, 0, &depth, WETHLORN_NONE, next(it)), "beginRenderPass");
+    given(it, wethlorn_set_bind_group(device, encoder, 0, 0, group, of->numbers, 0, next(it)), "setBindGroup");
+    given(it, wethlorn_execute_bundles(device, encoder, 0, of->objects, 0, next(it)), "executeBundles");
+    given(it, wethlorn_end(device, encoder, 0, next(it)), "end");
+    uint64_t commands = given(it, wethlorn_finish(device, encoder, next(it)), "finish");
+    given(it, wethlorn_submit(device, &commands, 1, next(it)), "submit");
 }
 
 /* Makes each call that takes a list, with none in it. */
@@ -78,34 +82,46 @@ static void play_empty(played *it, const lists *of) {
     wethlorn_render_desc pipeline = WETHLORN_RENDER_DESC_INIT;
     wethlorn_bundle_desc bundle = WETHLORN_BUNDLE_DESC_INIT;
     wethlorn_device *device = &it->device;
+    wethlorn_bad_limit bad;
     memset(it, 0, sizeof *it);
-    check(wethlorn_open(1000000, 1, of->limits, 0, device) == WETHLORN_OK, "open");
-    uint64_t entries = given(it, wethlorn_create_bind_group_layout(device, ME, of->layout, 0, next(it)), "createBindGroupLayout");
-    pipeline.layout = given(it, wethlorn_create_pipeline_layout(device, ME, of->objects, 0, next(it)), "createPipelineLayout");
-    uint64_t group = given(it, wethlorn_create_bind_group(device, ME, entries, of->group, 0, next(it)), "createBindGroup");
-    given(it, wethlorn_create_compute_pipeline(device, ME, pipeline.layout, of->iface, 0, next(it)), "createComputePipeline");
+    check(wethlorn_open(1000000, 1, of->limits, 0, of->limits, 0, device, &bad) == WETHLORN_OK, "open");
+    uint64_t entries = given(it, wethlorn_create_bind_group_layout(device, of->layout, 0, next(it)), "createBindGroupLayout");
+    pipeline.layout = given(it, wethlorn_create_pipeline_layout(device, of->objects, 0, next(it)), "createPipelineLayout");
+    uint64_t group = given(it, wethlorn_create_bind_group(device, entries, of->group, 0, next(it)), "createBindGroup");
+    given(it, wethlorn_create_compute_pipeline(device, pipeline.layout, of->iface, 0, next(it)), "createComputePipeline");
     pipeline.depth_format = bundle.depth_format = WETHLORN_DEPTH32_FLOAT;
     given(it,
-        wethlorn_create_render_pipeline(device, ME, &pipeline, of->iface, 0, of->buffers, 0, of->attributes, 0, of->numbers, 0, next(it)),
+        wethlorn_create_render_pipeline(device, &pipeline, of->iface, 0, of->buffers, 0, of->attributes, 0, of->numbers, 0, next(it)),
         "createRenderPipeline");
-    given(it, wethlorn_create_bundle_encoder(device, ME, &bundle, of->numbers, 0, next(it)), "createRenderBundleEncoder");
+    given(it, wethlorn_create_bundle_encoder(device, &bundle, of->numbers, 0, next(it)), "createRenderBundleEncoder");
     draw(it, of, group);
-    given(it, wethlorn_submit(device, ME, of->objects, 0, next(it)), "submit of none");
+    given(it, wethlorn_submit(device, of->objects, 0, next(it)), "submit of none");
+}
+
+/* A device whose one buffer has been written in part. */
+static void play_written(wethlorn_device *device) {
+    wethlorn_buffer_desc desc = {16, WETHLORN_BUFFER_USAGE_COPY_DST, 0};
+    wethlorn_bad_limit bad;
+    wethlorn_reply reply;
+    check(wethlorn_open(1000, 3, NULL, 0, NULL, 0, device, &bad) == WETHLORN_OK, "open");
+    check(wethlorn_create_buffer(device, &desc, &reply) == WETHLORN_OK && reply.valid, "createBuffer");
+    check(wethlorn_write_buffer(device, 0, 4, 8, &reply) == WETHLORN_OK && !reply.fault, "writeBuffer");
 }
 
 /* What a device has that is written, mapped, waited for and released, of which nothing is drained. */
 static void play_undrained(wethlorn_device *device) {
     wethlorn_buffer_desc desc = {16, WETHLORN_BUFFER_USAGE_COPY_DST | WETHLORN_BUFFER_USAGE_MAP_READ, 0};
+    wethlorn_bad_limit bad;
     wethlorn_reply reply;
-    check(wethlorn_open(1000, 2, NULL, 0, device) == WETHLORN_OK, "open");
+    check(wethlorn_open(1000, 2, NULL, 0, NULL, 0, device, &bad) == WETHLORN_OK, "open");
     for (uint64_t buffer = 0; buffer < 3; buffer++) {
-        check(wethlorn_create_buffer(device, ME, &desc, &reply) == WETHLORN_OK && reply.number == buffer, "createBuffer");
-        check(wethlorn_write_buffer(device, ME, buffer, 4, 8, &reply) == WETHLORN_OK, "writeBuffer");
-        check(wethlorn_work_done(device, ME, &reply) == WETHLORN_OK, "onSubmittedWorkDone");
-        check(wethlorn_map_async(device, ME, buffer, WETHLORN_MAP_MODE_READ, 0, 16, &reply) == WETHLORN_OK, "mapAsync");
+        check(wethlorn_create_buffer(device, &desc, &reply) == WETHLORN_OK && reply.number == buffer, "createBuffer");
+        check(wethlorn_write_buffer(device, buffer, 4, 8, &reply) == WETHLORN_OK, "writeBuffer");
+        check(wethlorn_work_done(device, &reply) == WETHLORN_OK, "onSubmittedWorkDone");
+        check(wethlorn_map_async(device, buffer, WETHLORN_MAP_MODE_READ, 0, 16, &reply) == WETHLORN_OK, "mapAsync");
     }
-    check(wethlorn_complete(device, ME, 3, &reply) == WETHLORN_OK && !reply.fault, "complete");
-    check(wethlorn_drop(device, ME, 1, &reply) == WETHLORN_OK, "drop");
+    check(wethlorn_complete(device, 3, &reply) == WETHLORN_OK && !reply.fault, "complete");
+    check(wethlorn_drop(device, 1, &reply) == WETHLORN_OK, "drop");
 }
 
 /* A close tells how much was left, as a drain would have told it, one by one. */
@@ -248,6 +264,25 @@ static void try_arrays(void) {
                 drain_by(&all, (wethlorn_counts){items, uses, accesses});
 }
 
+/* Which bytes of a buffer are unset is told from the first on, and what is not told is left as it was. */
+static void try_unset(void) {
+    wethlorn_device device = WETHLORN_DEVICE_INIT;
+    wethlorn_bytes bytes = {9, 9};
+    wethlorn_left left;
+    check(wethlorn_unset_range(&device, 0, 0, 16, &bytes) == WETHLORN_CLOSED && bytes.from == 9, "bytes of a closed device");
+    play_undrained(&device);
+    check(wethlorn_unset_range(&device, 9, 0, 16, &bytes) == WETHLORN_NO_OBJECT && bytes.from == 9, "bytes of no buffer");
+    check(wethlorn_unset_range(&device, 0, 4, 12, &bytes) == WETHLORN_END && bytes.from == 9, "bytes that are written");
+    check(wethlorn_unset_range(&device, 2, 3, 3, &bytes) == WETHLORN_END && bytes.from == 9, "an empty range");
+    check(wethlorn_close(&device, &left) == WETHLORN_OK, "close");
+    memset(&device, 0, sizeof device);
+    play_written(&device);
+    check(wethlorn_unset_range(&device, 0, 1, 16, &bytes) == WETHLORN_OK && bytes.from == 1 && bytes.to == 4, "bytes before a write");
+    check(wethlorn_unset_range(&device, 0, bytes.to, 15, &bytes) == WETHLORN_OK && bytes.from == 12 && bytes.to == 15, "bytes behind it");
+    check(wethlorn_unset_range(&device, 0, 15, UINT64_MAX, &bytes) == WETHLORN_OK && bytes.from == 15 && bytes.to == UINT64_MAX, "bytes past the end");
+    check(wethlorn_close(&device, &left) == WETHLORN_OK, "close");
+}
+
 /* Lists of no elements are the same by null pointers and by others. */
 static void try_null(void) {
     static const wethlorn_layout_entry layout = WETHLORN_LAYOUT_ENTRY_INIT;
@@ -275,5 +310,6 @@ int main(void) {
     try_null();
     try_close();
     try_arrays();
+    try_unset();
     return is_wrong;
 }

@@ -20,6 +20,7 @@ import tempfile
 
 import declared
 from wgsim.program import archive
+from wgsim.reading import rules
 
 TOP = pathlib.Path(__file__).resolve().parents[2]
 
@@ -74,22 +75,25 @@ def has_library():
         return run(["cc", source, "-o", f"{folder}/has", "-ljansson"])[0] == 0
 
 
-def compiles(words, source, name):
-    status, said = run([*words, "-fsyntax-only", "-I", INCLUDE, source])
+def compiles(words, source, name, **how):
+    status, said = run([*words, "-fsyntax-only", "-I", INCLUDE, source], **how)
     check(status == 0, f"{name}:\n{said.decode()}")
 
 
 def test_header():
-    """The header is C99 and C++17, for each compiler that is there, and each program here is C99."""
+    """The headers are C99 and C++17, for each compiler that is there, and each program here is C99."""
     header = INCLUDE / "wethlorn.h"
+    both = b"#include <wethlorn_rules.h>\n#include <wethlorn.h>\n"
     for compiler in ("gcc", "clang"):
         if shutil.which(compiler):
             compiles([compiler, *C, "-pedantic", "-x", "c"], header, f"the header by {compiler}")
+            compiles([compiler, *C, "-pedantic", "-x", "c"], "-", f"the headers by {compiler}", input=both)
             for source in [*sorted(EXAMPLES.glob("*.c")), *(sorted(HERE.glob("*.c")) if has_library() else [])]:
                 compiles([compiler, *C, "-pedantic"], source, f"{source.name} by {compiler}")
     for compiler in ("g++", "clang++"):
         if shutil.which(compiler):
             compiles([compiler, *CXX, "-pedantic", "-x", "c++"], header, f"the header by {compiler}")
+            compiles([compiler, *CXX, "-pedantic", "-x", "c++"], "-", f"the headers by {compiler}", input=both)
             compiles([compiler, *CXX, "-pedantic"], EXAMPLES / "holder.cpp", f"holder.cpp by {compiler}")
 
 
@@ -141,9 +145,17 @@ def test_threads(program):
 
 
 def test_edges(program):
-    """Null pointers for lists of no elements, the version, and what a close tells."""
+    """Null pointers for lists of no elements, the version, and what a close tells; or limits."""
     status, said = run([program])
     check(status == 0 and not said, f"{program.name}: status {status}\n{said.decode()}")
+
+
+def test_rules(folder):
+    """What the header tells of each rule is what docs/rules.json has of it."""
+    status, text = run([build(folder, "rules", [HERE / "rules.c"], [])])
+    wanted = [f"{number}\t{rules.sentence_of(number)}\t{', '.join(rules.sections_of(number))}" for number in rules.numbers()]
+    check(status == 0, f"{HERE / 'rules.c'}: status {status}")
+    check(text.decode().splitlines() == wanted, f"wethlorn_rules.h: {first_difference(text, chr(10).join(wanted).encode())}")
 
 
 def test_holder(folder, linked):
@@ -153,7 +165,7 @@ def test_holder(folder, linked):
     check(status == 0, f"holder.cpp: {said.decode()}")
     if status == 0:
         status, text = run([program])
-        expected = "buffer 0, operation 1, rule 202\nstep 2 of operation 1, accesses 1\nno object 1\n"
+        expected = f"buffer 0, operation 1\nrule 202: {rules.sentence_of(202)}\nstep 2 of operation 1, accesses 1\nno object 1\n"
         check(status == 0 and text.decode() == expected, f"holder.cpp: status {status}, {text.decode('utf-8', 'replace')}")
 
 
@@ -296,6 +308,9 @@ def test_programs(words):
         test_threads(build(folder, "threads", [EXAMPLES / "threads.c"], linked, "-pthread"))
         test_edges(build(folder, "edges", [HERE / "edges.c"], linked))
         test_edges(build(folder, "edges-with-asan", [HERE / "edges.c"], linked, *asan))
+        test_rules(folder)
+        test_edges(build(folder, "limits", [HERE / "limits.c"], linked))
+        test_edges(build(folder, "limits-with-asan", [HERE / "limits.c"], linked, *asan))
         if shutil.which("c++"):
             test_holder(folder, linked)
         if has_library():

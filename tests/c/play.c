@@ -52,14 +52,13 @@ static int play_turn(play *it, size_t lane) {
     const json_t *calls = lane_of(it, lane);
     wethlorn_item item;
     wethlorn_settlement settled;
-    p->who = (uint32_t)lane;
     while (!is_over(it) && it->at[lane] < json_array_size(calls)) {
         play_call(p, json_array_get(calls, it->at[lane]++));
         if (p->names_dropped && (wethlorn_next_item(&p->device, &item) != WETHLORN_END || wethlorn_next_settlement(&p->device, &settled) != WETHLORN_END))
             p->wrong = "a call that was not made has done something";
         if (is_over(it) || !p->word)
             continue;
-        if (!report_call(&it->player.report, &p->device, p->who, p->word, &p->reply))
+        if (!report_call(&it->player.report, &p->device, (uint32_t)lane, p->word, &p->reply))
             p->wrong = "what is told of a call does not fit together";
         if (p->reply.answer != WETHLORN_KEPT)
             return 1;

@@ -18,7 +18,7 @@ typedef struct player {
     wethlorn_device device;
     wethlorn_reply reply;
     report report;
-    uint32_t status, who;
+    uint32_t status;
     const char *word;   /* of the call that was made, or null where none was */
     json_t *names;      /* from each name to its place in `all` */
     named *all;

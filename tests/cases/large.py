@@ -257,6 +257,19 @@ def many_holders():
     yield f"{count} pipelines of one layout", ["run"], lane(calls), report(said), 0
 
 
+def labels():
+    """As many encoders of the longest labels as a text has room for, of letters or of escapes alone; and the last one longer by a byte."""
+    for what, label in (("letters", "a" * 256), ("escapes", "\\u00e9" * 128)):
+        call = '{"do":"createEncoder","as":"e%s","label":"%s"}'
+        count = (TEXT_LIMIT - len(lane([]))) // (len(call % (TEXT_LIMIT, label)) + 1)
+        calls = [call % (n, label) for n in range(count)]
+        said = report([f"createEncoder made {n} valid" for n in range(count)])
+        yield f"{count} labels of 256 bytes, of {what}", ["run"], lane(calls), said, 0
+        calls[-1] = call % (count - 1, label + "b")
+        refusal = f"bad script 8 0 0 {count - 1}\n".encode()
+        yield f"{count} labels of {what}, of which the last is too long", ["run"], lane(calls), refusal, 3
+
+
 def derived_layouts():
     """Interfaces of as many entries as there can be, of which a pipeline derives its layouts; layouts that are got by the thousand, and the
     longest chain of pipelines, each of a layout that was got of the one before."""
@@ -330,5 +343,6 @@ def chains_of_pipelines():
 
 def cases():
     """All cases of this file."""
-    for each in (limits, promises_and_scopes, holders, budgets, encoders, bindings, lists_of_bindings, many_holders, derived_layouts):
+    made = (limits, promises_and_scopes, holders, budgets, encoders, bindings, lists_of_bindings, many_holders, labels, derived_layouts)
+    for each in made:
         yield from each()

@@ -165,6 +165,10 @@ def test_translation():
     """Each call of scripts is one in a browser, each kind of binding has its variable, and what a script is made of can be played."""
     check(set(translation.TRANSLATE) == set(calls.CALLS) - {"drop"}, "tools/wgsim/hunting/translation.py has not the calls of scripts")
     check(set(shaders.ATTRIBUTES) == set(calls.WORDS["attribute format"]), "shaders.py has not the formats of attributes")
+    draw = {"do": "drawIndexed", "on": "p", "indices": 3, "instances": 1, "firstIndex": 0, "firstInstance": 0}
+    for base, told in ((0, 0), (2**31 - 1, 2**31 - 1), (2**31, -(2**31)), (2**32 - 1, -1)):
+        found = translation.TRANSLATE["drawIndexed"]({**draw, "baseVertex": base})["args"]
+        check(found == [3, 1, 0, told, 0], f"the base vertex {base} is {found} in a browser")
     asking, source = core.Core(None), sources.Source(3)
     for number in range(12):
         _, top = source.script(number)
@@ -176,6 +180,7 @@ def test_translation():
         again = smaller.renamed(answered.flat.calls)
         same = asking.answered(core.Flat(again, answered.flat.limits))
         check(len(set(names)) == len(names) and not any(call["do"] == "drop" for call in again), f"script {number}: it cannot be played")
+        check(not any("label" in call for call in again), f"script {number}: it has labels")
         check(
             same is not None and [e.line for e in same.entry_of.values()] == [e.line for e in answered.entry_of.values()],
             f"script {number}: other names, other answers",

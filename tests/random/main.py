@@ -3,14 +3,14 @@
 Each script comes of a seed. Some are good and test the borders of each rule, do mixed work, drop much under a small budget, make layouts,
 bind groups and pipelines, of which many derive their layouts, dispatch in compute passes, draw in render passes, count what is drawn by
 query sets, execute bundles, draw frames of canvases, or set buffers in many pieces; some lose their device before any of their calls; many
-ask for limits; some are malformed, and some are good ones of which bytes are flipped, cut out or repeated; a few fixed ones stand at the
-limits of size, and at each limit that can be asked for. About a quarter have several phases and lanes. Exit status and bytes have to be
-equal. Where lanes run at once the model plays them in the order of the program's report, that is by the callers of its entries, which has
-to be one of the orders that there can be. Each report is also read by itself: behind a loss nothing is valid, queued or refused, and what
-has a fault does nothing. Other seeds make texts that are to be checked, small traces of anything, reports with lines changed, and reports
-with bytes spoiled; there the verdict on a small trace is held to one that tries all orders too. Of a difference the seed is named and the
-script or the text is written to a file. At the end stands how often each rule was met and unmet, part by part as `what met/unmet`, and in
-how many scripts the callers came in turns.
+ask for limits; some have labels; some are malformed, and some are good ones of which bytes are flipped, cut out or repeated; a few fixed
+ones stand at the limits of size, and at each limit that can be asked for. About a quarter have several phases and lanes. Exit status and
+bytes have to be equal. Where lanes run at once the model plays them in the order of the program's report, that is by the callers of its
+entries, which has to be one of the orders that there can be. Each report is also read by itself: behind a loss nothing is valid, queued or
+refused, and what has a fault does nothing. Other seeds make texts that are to be checked, small traces of anything, reports with lines
+changed, and reports with bytes spoiled; there the verdict on a small trace is held to one that tries all orders too. Of a difference the
+seed is named and the script or the text is written to a file. At the end stands how often each rule was met and unmet, part by part as
+`what met/unmet`, and in how many scripts the callers came in turns.
 
 Ends with 1 if there was a difference.
 """

@@ -277,6 +277,73 @@ def test_stand_ins(folder):
     check(words in told, f"explain of an image: {told}")
 
 
+# A page whose objects have labels, each with what a script may have of it.
+LABELS = """<script type="module">
+const device = await (await navigator.gpu.requestAdapter()).requestDevice({{ label: 'device' }});
+const buffer = label => device.createBuffer({{ size: 16, usage: 40, label }});
+for (const label of [{labels}]) buffer(label);
+const texture = device.createTexture({{ size: [4, 4], format: 'rgba8unorm', usage: 16, label: 'texture' }});
+const view = texture.createView({{ label: 'view' }});
+device.createSampler({{ label: 'sampler' }});
+const layout = device.createBindGroupLayout({{ entries: [], label: 'layout' }});
+const layouts = device.createPipelineLayout({{ bindGroupLayouts: [layout], label: 'layouts' }});
+const module = device.createShaderModule({{ code: '@compute @workgroup_size(1) fn main() {{}} @vertex fn vs() -> @builtin(position) vec4f '
+  + '{{ return vec4f(); }} @fragment fn fs() -> @location(0) vec4f {{ return vec4f(); }}', label: 'module' }});
+const drawing = {{ layout, vertex: {{ module }}, fragment: {{ module, targets: [{{ format: 'rgba8unorm' }}] }} }};
+const compute = device.createComputePipeline({{ layout: layouts, compute: {{ module }}, label: 'compute' }});
+const render = await device.createRenderPipelineAsync({{ ...drawing, layout: 'auto', label: 'render' }});
+const group = device.createBindGroup({{ layout: compute.getBindGroupLayout(0), entries: [], label: 'group' }});
+device.createQuerySet({{ type: 'occlusion', count: 1, label: 'queries' }});
+const bundler = device.createRenderBundleEncoder({{ colorFormats: ['rgba8unorm'], label: 'bundler' }});
+const bundle = bundler.finish({{ label: 'bundle' }}), encoder = device.createCommandEncoder({{ label: 'encoder' }});
+encoder.beginComputePass({{ label: 'computing' }}).end();
+const colors = [{{ view, loadOp: 'clear', storeOp: 'store' }}];
+const pass = encoder.beginRenderPass({{ colorAttachments: colors, label: 'drawing' }});
+pass.pushDebugGroup('one\\ntwo');
+pass.setIndexBuffer(buffer(), 'uint16');
+for (const base of [undefined, 0, 5, -1, -2147483648, 2147483647]) pass.drawIndexed(3, 1, 0, base, 7);
+pass.popDebugGroup();
+pass.end();
+encoder.finish({{ label: 'commands' }});
+device.createCommandEncoder();
+</script>"""
+# What a label is in JavaScript, and what it is in a script; None where it says nothing.
+SAID = [
+    ("undefined", None), ("''", None), ("null", "null"), ("7", "7"), ("'shadow map'", "shadow map"), ("'a\\tb\\u007fc'", "a b c"),
+    ("'\\u0000'", " "), ("'a'.repeat(256)", "a" * 256), ("'a'.repeat(300)", "a" * 256), ("'\u00e9'.repeat(200)", "\u00e9" * 128),
+    ("'a' + '\u00e9'.repeat(200)", "a" + "\u00e9" * 127), ("'\u20ac'.repeat(90)", "\u20ac" * 85),
+    ("'\\u{1f600}'.repeat(65)", "\U0001f600" * 64), ("'ab' + '\\u{1f600}'.repeat(64)", "ab" + "\U0001f600" * 63),
+    ("'\\ud83d!'", "\ufffd!"), ("'\\n'.repeat(300)", " " * 256), ("'\\u0080'", "\u0080"), ("'\"\\\\'", '"\\'),
+]
+
+
+def test_labels(folder):
+    """The labels of a page stand in its calls as a script may have them, and a base vertex below 0 modulo 2^32; the script is taken."""
+    one_file, page, saved = folder / whole_text.NAME, folder / "null.html", folder / "null.recording.json"
+    one_file.write_text(wgsim("record", "--one-file")[0], encoding="utf-8")
+    page.write_text(LABELS.format(labels=", ".join(given for given, _ in SAID)), encoding="utf-8")
+    saved.write_bytes(played(page, one_file))
+    wgsim("record", "--saved", "--out", folder / "out", saved)
+    script = folder / "out/null.json"
+    calls = calls_of(json.loads(script.read_text(encoding="utf-8")))
+    said = [call.get("label") for call in calls if call["do"] == "createBuffer"]
+    check(said == [label for _, label in SAID] + [None], f"labels: {said}")
+    others = [(call["do"], call["label"]) for call in calls if "label" in call and call["do"] != "createBuffer"]
+    wanted = [
+        ("createTexture", "texture"), ("createView", "view"), ("createSampler", "sampler"), ("createBindGroupLayout", "layout"),
+        ("createPipelineLayout", "layouts"), ("createComputePipeline", "compute"), ("createRenderPipeline", "render"),
+        ("createBindGroup", "group"), ("createQuerySet", "queries"), ("createBundleEncoder", "bundler"), ("finishBundle", "bundle"),
+        ("createEncoder", "encoder"), ("beginComputePass", "computing"), ("beginRenderPass", "drawing"), ("pushDebugGroup", "one two"),
+        ("finish", "commands"),
+    ]
+    check(others == wanted, f"labels: {others}")
+    drawn = [call.get("baseVertex") for call in calls if call["do"] == "drawIndexed"]
+    check(drawn == [None, 0, 5, 2**32 - 1, 2**31, 2**31 - 1], f"base vertices: {drawn}")
+    check("left out" not in wgsim("judge", folder / "out", status=1)[0], "judge says that labels or base vertices are left out")
+    told = wgsim("explain", script)[0]
+    check('"p1" "drawing" (' in told, f"explain of a page with labels does not tell them: {told}")
+
+
 def test_mistakes(folder):
     """Ten samples make no fault; with a mistake, each of the table, `explain` tells its rule and its cause, at the line of the page that
     makes the call."""
@@ -767,7 +834,7 @@ def main():
         ]
         by_node = (
             (test_null, "null"), (test_frames, "frames"), (test_source_maps, "maps"), (test_workers, "workers"), (test_stand_ins, "images"),
-            (test_unanswered, "unanswered"), (test_mistakes, "mistakes"),
+            (test_unanswered, "unanswered"), (test_labels, "labels"), (test_mistakes, "mistakes"),
         )
         tests += [(test_wgsl, ()), *((test, (folder / name,)) for test, name in by_node)] if NODE else []
         tests += [(test_browser, (folder / "browser",))] if path else []

@@ -6,7 +6,7 @@ written in Python is in order.
     tests/repository/run --imports        imports of crates that nothing uses, and nothing else
 
 What it asks of the documents alone is in documents.py and pages.py, of the map in map_of_calls.py, of rule numbers in rule_numbers.py, of
-Python in python_code.py, and of imports in imports.py.
+limits in limits.py, of Python in python_code.py, and of imports in imports.py.
 
 Prints a line for each finding, and fails if there is one. A notice, as of edits that were not tried since their crate changed, is none.
 """
@@ -19,6 +19,7 @@ import sys
 
 import documents
 import imports
+import limits
 import map_of_calls
 import pages
 import python_code
@@ -177,7 +178,7 @@ def main():
     for check in (check_paths, check_edits, check_few_edits, check_tried, check_promises, check_causes):
         check()
     findings.extend(documents.findings_of(TOP, crates()) + pages.findings_of(TOP, crates()) + map_of_calls.findings_of(TOP))
-    findings.extend(rule_numbers.findings_of(TOP) + python_code.findings_of(TOP))
+    findings.extend(rule_numbers.findings_of(TOP) + limits.findings_of(TOP) + python_code.findings_of(TOP))
     findings.extend(imports.unused(TOP, crates()))
     return told(findings)
 

@@ -7,7 +7,7 @@ Each check takes the top of the repository, the names of its crates and a list, 
 import json
 import re
 
-from wgsim.generated import definitions, rule_page, tables
+from wgsim.generated import definitions, rule_page, rule_texts, tables
 
 LONGEST = 300
 LEAST_SENTENCE = 60
@@ -53,8 +53,8 @@ def check_contents(top, crates, findings):
 
 
 def check_generated(top, crates, findings):
-    """What is generated of the pages is what it is generated from, and each public definition has its sentence."""
-    for each in (rule_page, definitions, tables):
+    """What is generated is what it is generated from, and each public definition has its sentence."""
+    for each in (rule_page, rule_texts, definitions, tables):
         findings.extend(each.findings_of(top))
 
 

@@ -30,42 +30,42 @@ over_open (Some c) (Some d) closed opened a b e f h =
 unchanged : (a : InnerValue) → NothingHasChanged a a
 unchanged a = record { setup = refl; desk = record { history = refl; seats = refl }; items = refl; told = refl; settled = refl }
 
-pub asks_shut : (asked : Option (RequestOf ℕ)) (who : ℕ) (old new : Option InnerValue) (before : ToldReply)
-    → old ≡ None → new ≡ None → Asks asked who old new before before 3
-asks_shut asked who old new before e f = over_shut old new (IsShut new before before 3) (AsksOpen asked who before before 3) e (refl, f, refl)
+pub asks_shut : (asked : Option (RequestOf ℕ)) (old new : Option InnerValue) (before : ToldReply)
+    → old ≡ None → new ≡ None → Asks asked old new before before 3
+asks_shut asked old new before e f = over_shut old new (IsShut new before before 3) (AsksOpen asked before before 3) e (refl, f, refl)
 
-pub asks_open : (made asked : Option (RequestOf ℕ)) (who : ℕ) (old new : Option InnerValue) (before after : ToldReply) (status : ℕ) (a b : InnerValue)
-    → Some a ≡ old → new ≡ Some b → AsksOpen made who before after status a b → made ≡ asked → Asks asked who old new before after status
-asks_open made asked who old new before after status a b e f h m =
-    over_open old new (IsShut new before after status) (AsksOpen asked who before after status) a b e f (subst (λ (x : Option (RequestOf ℕ)). AsksOpen x who before after status a b) m h)
+pub asks_open : (made asked : Option (RequestOf ℕ)) (old new : Option InnerValue) (before after : ToldReply) (status : ℕ) (a b : InnerValue)
+    → Some a ≡ old → new ≡ Some b → AsksOpen made before after status a b → made ≡ asked → Asks asked old new before after status
+asks_open made asked old new before after status a b e f h m =
+    over_open old new (IsShut new before after status) (AsksOpen asked before after status) a b e f (subst (λ (x : Option (RequestOf ℕ)). AsksOpen x before after status a b) m h)
 
-pub asks_bad : (asked : Option (RequestOf ℕ)) (who : ℕ) (old new : Option InnerValue) (before : ToldReply) (a : InnerValue)
-    → Some a ≡ old → new ≡ Some a → None ≡ asked → Asks asked who old new before before 4
-asks_bad asked who old new before a e f m =
-    over_open old new (IsShut new before before 4) (AsksOpen asked who before before 4) a a e f (record { because = sym m; same = unchanged a; out = refl })
+pub asks_bad : (asked : Option (RequestOf ℕ)) (old new : Option InnerValue) (before : ToldReply) (a : InnerValue)
+    → Some a ≡ old → new ≡ Some a → None ≡ asked → Asks asked old new before before 4
+asks_bad asked old new before a e f m =
+    over_open old new (IsShut new before before 4) (AsksOpen asked before before 4) a a e f (record { because = sym m; same = unchanged a; out = refl })
 
-pub asks_without_memory : (asked : Option (RequestOf ℕ)) (who : ℕ) (old new : Option InnerValue) (before : ToldReply) (a : InnerValue)
-    → Some a ≡ old → new ≡ Some a → Asks asked who old new before before 1
-asks_without_memory asked who old new before a e f =
-    over_open old new (IsShut new before before 1) (AsksOpen asked who before before 1) a a e f (record { because = tt; same = unchanged a; out = refl })
+pub asks_without_memory : (asked : Option (RequestOf ℕ)) (old new : Option InnerValue) (before : ToldReply) (a : InnerValue)
+    → Some a ≡ old → new ≡ Some a → Asks asked old new before before 1
+asks_without_memory asked old new before a e f =
+    over_open old new (IsShut new before before 1) (AsksOpen asked before before 1) a a e f (record { because = tt; same = unchanged a; out = refl })
 
-pub records_shut : (asked : Option (CommandOf ℕ)) (who encoder : ℕ) (on : On) (old new : Option InnerValue) (before : ToldReply)
-    → old ≡ None → new ≡ None → Records asked who encoder on old new before before 3
-records_shut asked who encoder on old new before e f =
-    over_shut old new (IsShut new before before 3) (RecordsOpen asked who encoder on before before 3) e (refl, f, refl)
+pub records_shut : (asked : Option (CommandOf ℕ)) (encoder : ℕ) (on : On) (old new : Option InnerValue) (before : ToldReply)
+    → old ≡ None → new ≡ None → Records asked encoder on old new before before 3
+records_shut asked encoder on old new before e f =
+    over_shut old new (IsShut new before before 3) (RecordsOpen asked encoder on before before 3) e (refl, f, refl)
 
-pub records_open : (made asked : Option (CommandOf ℕ)) (who encoder : ℕ) (on : On) (old new : Option InnerValue) (before after : ToldReply) (status : ℕ) (a b : InnerValue)
-    → Some a ≡ old → new ≡ Some b → RecordsOpen made who encoder on before after status a b → made ≡ asked → Records asked who encoder on old new before after status
-records_open made asked who encoder on old new before after status a b e f h m =
-    over_open old new (IsShut new before after status) (RecordsOpen asked who encoder on before after status) a b e f
-    (subst (λ (x : Option (CommandOf ℕ)). RecordsOpen x who encoder on before after status a b) m h)
+pub records_open : (made asked : Option (CommandOf ℕ)) (encoder : ℕ) (on : On) (old new : Option InnerValue) (before after : ToldReply) (status : ℕ) (a b : InnerValue)
+    → Some a ≡ old → new ≡ Some b → RecordsOpen made encoder on before after status a b → made ≡ asked → Records asked encoder on old new before after status
+records_open made asked encoder on old new before after status a b e f h m =
+    over_open old new (IsShut new before after status) (RecordsOpen asked encoder on before after status) a b e f
+    (subst (λ (x : Option (CommandOf ℕ)). RecordsOpen x encoder on before after status a b) m h)
 
-pub records_bad : (asked : Option (CommandOf ℕ)) (who encoder : ℕ) (on : On) (old new : Option InnerValue) (before : ToldReply) (a : InnerValue)
-    → Some a ≡ old → new ≡ Some a → None ≡ asked → Records asked who encoder on old new before before 4
-records_bad asked who encoder on old new before a e f m =
-    over_open old new (IsShut new before before 4) (RecordsOpen asked who encoder on before before 4) a a e f (record { because = sym m; same = unchanged a; out = refl })
+pub records_bad : (asked : Option (CommandOf ℕ)) (encoder : ℕ) (on : On) (old new : Option InnerValue) (before : ToldReply) (a : InnerValue)
+    → Some a ≡ old → new ≡ Some a → None ≡ asked → Records asked encoder on old new before before 4
+records_bad asked encoder on old new before a e f m =
+    over_open old new (IsShut new before before 4) (RecordsOpen asked encoder on before before 4) a a e f (record { because = sym m; same = unchanged a; out = refl })
 
-pub records_without_memory : (asked : Option (CommandOf ℕ)) (who encoder : ℕ) (on : On) (old new : Option InnerValue) (before : ToldReply) (a : InnerValue)
-    → Some a ≡ old → new ≡ Some a → Records asked who encoder on old new before before 1
-records_without_memory asked who encoder on old new before a e f =
-    over_open old new (IsShut new before before 1) (RecordsOpen asked who encoder on before before 1) a a e f (record { because = tt; same = unchanged a; out = refl })
+pub records_without_memory : (asked : Option (CommandOf ℕ)) (encoder : ℕ) (on : On) (old new : Option InnerValue) (before : ToldReply) (a : InnerValue)
+    → Some a ≡ old → new ≡ Some a → Records asked encoder on old new before before 1
+records_without_memory asked encoder on old new before a e f =
+    over_open old new (IsShut new before before 1) (RecordsOpen asked encoder on before before 1) a a e f (record { because = tt; same = unchanged a; out = refl })

@@ -27,60 +27,60 @@ use Rattle.wg_c.specs.declared.inner.Drained.TheVariants.{Told, Wants}
 use Rattle.wg_c.specs.Inners.{InnerValue, AreWaiting, answer_to, HasDone, HasAsked, HasComeLate, HasKept, HasRecorded, Sheets, told_over, HasDrained, late_event, pass_number}
 
 -- an event that was sent
-done_by : (old new : InnerValue) (who : ℕ) (event : Event) (reply : Reply)
-    → new.desk.setup ≡ old.desk.setup → HasSent old.desk new.desk who event reply → HandsOutGrowth old.desk new.desk old.items new.items
-    → new.told ≡ old.told → new.settled ≡ old.settled ++ reply.settled → HasDone old new who event
-done_by old new who event reply setup sent grown still settled =
+done_by : (old new : InnerValue) (event : Event) (reply : Reply)
+    → new.desk.setup ≡ old.desk.setup → HasSent old.desk new.desk 0 event reply → HandsOutGrowth old.desk new.desk old.items new.items
+    → new.told ≡ old.told → new.settled ≡ old.settled ++ reply.settled → HasDone old new event
+done_by old new event reply setup sent grown still settled =
     let e : reply ≡ answer_to old event = sent.replied in
     record {
       setup = setup;
-      sent = subst (λ (r : Reply). HasSent old.desk new.desk who event r) e sent;
+      sent = subst (λ (r : Reply). HasSent old.desk new.desk 0 event r) e sent;
       grown = grown;
       still = still;
       settled = subst (λ (r : Reply). new.settled ≡ old.settled ++ r.settled) e settled;
     }
 
-pub asked_by : (old new : InnerValue) (who : ℕ) (request : RequestOf ℕ) (reply : Reply) (out : ToldReply)
-    → new.desk.setup ≡ old.desk.setup → HasSent old.desk new.desk who (event_sent old.desk.seats request) reply
+pub asked_by : (old new : InnerValue) (request : RequestOf ℕ) (reply : Reply) (out : ToldReply)
+    → new.desk.setup ≡ old.desk.setup → HasSent old.desk new.desk 0 (event_sent old.desk.seats request) reply
     → IsNumber reply.answer (length old.desk.seats) → HandsOutGrowth old.desk new.desk old.items new.items
     → new.desk.seats ≡ seats_after old.desk.setup.serial old.desk.seats request reply.answer
     → new.told ≡ old.told → new.settled ≡ old.settled ++ reply.settled → out ≡ reply_told reply (length old.desk.history) 0
-    → HasAsked old new who request out
-asked_by old new who request reply out setup sent number grown seats still settled out_is =
+    → HasAsked old new request out
+asked_by old new request reply out setup sent number grown seats still settled out_is =
     let R : Reply = answer_to old (event_sent old.desk.seats request) in
     let e : reply ≡ R = sent.replied in
     record {
-      done = done_by old new who (event_sent old.desk.seats request) reply setup sent grown still settled;
+      done = done_by old new (event_sent old.desk.seats request) reply setup sent grown still settled;
       seats = subst (λ (r : Reply). new.desk.seats ≡ seats_after old.desk.setup.serial old.desk.seats request r.answer) e seats;
       number = subst (λ (r : Reply). IsNumber r.answer (length old.desk.seats)) e number;
       out_is = subst (λ (r : Reply). out ≡ reply_told r (length old.desk.history) 0) e out_is;
     }
 
-pub came_late : (old new : InnerValue) (who encoder : ℕ) (on : On) (command : CommandOf ℕ) (reply : Reply) (out : ToldReply)
+pub came_late : (old new : InnerValue) (encoder : ℕ) (on : On) (command : CommandOf ℕ) (reply : Reply) (out : ToldReply)
     → true ≡ is_late_at old.desk.seats encoder on
-    → new.desk.setup ≡ old.desk.setup → HasSent old.desk new.desk who (late_event old encoder) reply
+    → new.desk.setup ≡ old.desk.setup → HasSent old.desk new.desk 0 (late_event old encoder) reply
     → HandsOutGrowth old.desk new.desk old.items new.items → new.desk.seats ≡ old.desk.seats
     → new.told ≡ old.told → new.settled ≡ old.settled ++ reply.settled
     → out ≡ reply_told reply (length old.desk.history) (pass_number old encoder command)
-    → HasRecorded old new who encoder on command out
-came_late old new who encoder on command reply out late setup sent grown seats still settled out_is =
+    → HasRecorded old new encoder on command out
+came_late old new encoder on command reply out late setup sent grown seats still settled out_is =
     let e : reply ≡ answer_to old (late_event old encoder) = sent.replied in
-    let h : HasComeLate old new who encoder command out = record {
-      done = done_by old new who (late_event old encoder) reply setup sent grown still settled;
+    let h : HasComeLate old new encoder command out = record {
+      done = done_by old new (late_event old encoder) reply setup sent grown still settled;
       seats = seats;
       out_is = subst (λ (r : Reply). out ≡ reply_told r (length old.desk.history) (pass_number old encoder command)) e out_is;
     } in
-    subst (λ (b : Bool). MatchBool b (HasComeLate old new who encoder command out) (HasKept old new encoder on command out)) late h
+    subst (λ (b : Bool). MatchBool b (HasComeLate old new encoder command out) (HasKept old new encoder on command out)) late h
 
-pub was_kept : (old new : InnerValue) (who encoder : ℕ) (on : On) (command : CommandOf ℕ) (out : ToldReply)
+pub was_kept : (old new : InnerValue) (encoder : ℕ) (on : On) (command : CommandOf ℕ) (out : ToldReply)
     → false ≡ is_late_at old.desk.seats encoder on
     → new.desk.setup ≡ old.desk.setup → new.desk.history ≡ old.desk.history
     → new.desk.seats ≡ recorded_at old.desk.seats encoder on (map_command (found_at old.desk.seats) command)
     → new.items ≡ old.items → new.told ≡ old.told → new.settled ≡ old.settled → out ≡ kept_told (pass_number old encoder command)
-    → HasRecorded old new who encoder on command out
-was_kept old new who encoder on command out late setup history seats items still settled out_is =
+    → HasRecorded old new encoder on command out
+was_kept old new encoder on command out late setup history seats items still settled out_is =
     let h : HasKept old new encoder on command out = record { setup = setup; history = history; seats = seats; items = items; still = still; settled = settled; out_is = out_is } in
-    subst (λ (b : Bool). MatchBool b (HasComeLate old new who encoder command out) (HasKept old new encoder on command out)) late h
+    subst (λ (b : Bool). MatchBool b (HasComeLate old new encoder command out) (HasKept old new encoder on command out)) late h
 
 -- What waits to be told.
 

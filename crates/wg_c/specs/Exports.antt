@@ -7,6 +7,8 @@ use Rattle.wg_types.specs.declared.requests.RequestOf.{RequestOf}
 use Rattle.wg_types.specs.Commands.{named as command_named}
 use Rattle.wg_types.specs.Requests.{named}
 use Rattle.wg_desk.specs.Seats.{any_missing, handle_at, is_unbegun}
+use Rattle.wg_told.specs.declared.limits.ToldBadLimit.{ToldBadLimit}
+use Rattle.wg_told.specs.Limits.{limit_at}
 use Rattle.wg_told.specs.declared.replies.ToldReply.{ToldReply}
 use Rattle.wg_told.specs.declared.replies.ToldSettlement.{ToldSettlement}
 use Rattle.wg_told.specs.declared.items.ToldItem.{ToldItem}
@@ -36,9 +38,9 @@ pub record IsNotMade (cause : Type 0) (old new : InnerValue) (before after : Tol
 -- Calls.
 
 -- A call was one, and was made and told.
-abbrev pub IsAsked : Option (RequestOf ℕ) → ℕ → InnerValue → InnerValue → ToldReply → Type 0
-IsAsked None who old new after = ⊥
-IsAsked (Some request) who old new after = HasAsked old new who request after
+abbrev pub IsAsked : Option (RequestOf ℕ) → InnerValue → InnerValue → ToldReply → Type 0
+IsAsked None old new after = ⊥
+IsAsked (Some request) old new after = HasAsked old new request after
 
 -- A call was one, and names a number that has no handle.
 abbrev pub Misses : Option (RequestOf ℕ) → InnerValue → Type 0
@@ -51,20 +53,20 @@ IsAskCause asked old status =
     MatchBool (nat_eq status 1) (Unit {0}) (MatchBool (nat_eq status 2) (Misses asked old) (MatchBool (nat_eq status 4) (asked ≡ None) ⊥))
 
 -- On an open device: the status is OK where the desk has made the call, and else nothing has changed.
-abbrev pub AsksOpen : Option (RequestOf ℕ) → ℕ → ToldReply → ToldReply → ℕ → InnerValue → InnerValue → Type 0
-AsksOpen asked who before after status old new =
-    MatchBool (nat_eq status 0) (IsAsked asked who old new after) (IsNotMade (IsAskCause asked old status) old new before after)
+abbrev pub AsksOpen : Option (RequestOf ℕ) → ToldReply → ToldReply → ℕ → InnerValue → InnerValue → Type 0
+AsksOpen asked before after status old new =
+    MatchBool (nat_eq status 0) (IsAsked asked old new after) (IsNotMade (IsAskCause asked old status) old new before after)
 
 -- What a call of a device does, open or not.
-abbrev pub Asks : Option (RequestOf ℕ) → ℕ → Option InnerValue → Option InnerValue → ToldReply → ToldReply → ℕ → Type 0
-Asks asked who old new before after status = Over old new (IsShut new before after status) (AsksOpen asked who before after status)
+abbrev pub Asks : Option (RequestOf ℕ) → Option InnerValue → Option InnerValue → ToldReply → ToldReply → ℕ → Type 0
+Asks asked old new before after status = Over old new (IsShut new before after status) (AsksOpen asked before after status)
 
 -- Commands.
 
 -- A command was one, and was recorded and told.
-abbrev pub IsRecorded : Option (CommandOf ℕ) → ℕ → ℕ → On → InnerValue → InnerValue → ToldReply → Type 0
-IsRecorded None who encoder on old new after = ⊥
-IsRecorded (Some command) who encoder on old new after = HasRecorded old new who encoder on command after
+abbrev pub IsRecorded : Option (CommandOf ℕ) → ℕ → On → InnerValue → InnerValue → ToldReply → Type 0
+IsRecorded None encoder on old new after = ⊥
+IsRecorded (Some command) encoder on old new after = HasRecorded old new encoder on command after
 
 -- A command was one, and its encoder or a number that it names has no handle.
 abbrev pub MissesOn : Option (CommandOf ℕ) → ℕ → InnerValue → Type 0
@@ -79,35 +81,42 @@ IsRecordCause asked encoder on old status =
     (MatchBool (nat_eq status 5) (is_unbegun old.desk.seats encoder on ≡ true) ⊥)))
 
 -- What a command does on a device that is open.
-abbrev pub RecordsOpen : Option (CommandOf ℕ) → ℕ → ℕ → On → ToldReply → ToldReply → ℕ → InnerValue → InnerValue → Type 0
-RecordsOpen asked who encoder on before after status old new =
-    MatchBool (nat_eq status 0) (IsRecorded asked who encoder on old new after) (IsNotMade (IsRecordCause asked encoder on old status) old new before after)
+abbrev pub RecordsOpen : Option (CommandOf ℕ) → ℕ → On → ToldReply → ToldReply → ℕ → InnerValue → InnerValue → Type 0
+RecordsOpen asked encoder on before after status old new =
+    MatchBool (nat_eq status 0) (IsRecorded asked encoder on old new after) (IsNotMade (IsRecordCause asked encoder on old status) old new before after)
 
 -- What a command does, on a device that is open or not.
-abbrev pub Records : Option (CommandOf ℕ) → ℕ → ℕ → On → Option InnerValue → Option InnerValue → ToldReply → ToldReply → ℕ → Type 0
-Records asked who encoder on old new before after status =
-    Over old new (IsShut new before after status) (RecordsOpen asked who encoder on before after status)
+abbrev pub Records : Option (CommandOf ℕ) → ℕ → On → Option InnerValue → Option InnerValue → ToldReply → ToldReply → ℕ → Type 0
+Records asked encoder on old new before after status =
+    Over old new (IsShut new before after status) (RecordsOpen asked encoder on before after status)
 
--- Opening. Where the device was closed, it is opened with nothing on it, or there was no memory, or one cannot ask for such limits.
+-- Opening, over limits of which it is told which value is the first that is none, if one is.
 
--- A device was opened with limits that can be asked for.
-abbrev pub IsNew : Option Limits → ℕ → ℕ → Option InnerValue → Type 0
-IsNew None budget serial new = ⊥
-IsNew (Some limits) budget serial new = MatchOption new ⊥ (λ b. IsOpened b budget serial limits)
+-- A device has nothing on it, and the limits.
+abbrev pub IsNew : Limits → ℕ → ℕ → Option InnerValue → Type 0
+IsNew limits budget serial new = MatchOption new ⊥ (λ b. IsOpened b budget serial limits)
 
--- Why a device was not opened: for want of memory, or limits that cannot be asked for.
-abbrev pub IsOpenCause : Option Limits → ℕ → Type 0
-IsOpenCause limits status = MatchBool (nat_eq status 1) (Unit {0}) (MatchBool (nat_eq status 4) (limits ≡ None) ⊥)
-
--- What an open does with a pointer that has no device.
-abbrev pub OpensShut : Option Limits → ℕ → ℕ → Option InnerValue → ℕ → Type 0
-OpensShut limits budget serial new status =
-    MatchBool (nat_eq status 0) (IsNew limits budget serial new) ((new ≡ None) × IsOpenCause limits status)
+-- What an open does with a pointer that has no device: with a value that is none it has the status 4, and tells which that is; else it
+-- opens the device, or there was no memory, which is the one free answer.
+abbrev pub OpensShut : Option ToldBadLimit → Limits → ℕ → ℕ → Option InnerValue → ToldBadLimit → ToldBadLimit → ℕ → Type 0
+OpensShut (Some bad) limits budget serial new before after status = (status ≡ 4) × (new ≡ None) × (after ≡ bad)
+OpensShut None limits budget serial new before after status =
+    MatchBool (nat_eq status 0) (IsNew limits budget serial new) ((status ≡ 1) × (new ≡ None)) × (after ≡ before)
 
 -- What an open does; a pointer that has a device keeps it, and status 7 says so.
-abbrev pub Opens : Option Limits → ℕ → ℕ → Option InnerValue → Option InnerValue → ℕ → Type 0
-Opens limits budget serial None new status = OpensShut limits budget serial new status
-Opens limits budget serial (Some a) new status = (status ≡ 7) × (new ≡ Some a)
+abbrev pub Opens : Option ToldBadLimit → Limits → ℕ → ℕ → Option InnerValue → Option InnerValue → ToldBadLimit → ToldBadLimit → ℕ → Type 0
+Opens bad limits budget serial None new before after status = OpensShut bad limits budget serial new before after status
+Opens bad limits budget serial (Some a) new before after status = (status ≡ 7) × (new ≡ Some a) × (after ≡ before)
+
+-- What a call for a limit tells of an open device, which stays as it is: the limit that its setup has under the number, or by status 4
+-- that the number is none.
+abbrev pub TellsLimit : ℕ → ℕ → ℕ → ℕ → InnerValue → InnerValue → Type 0
+TellsLimit name before after status old new =
+    MatchOption (limit_at old.desk.setup.limits name) ((status ≡ 4) × (new ≡ old) × (after ≡ before)) (λ value. (status ≡ 0) × (new ≡ old) × (after ≡ value))
+
+-- What a call for a limit tells, of a device that is open or not.
+abbrev pub GetsLimit : ℕ → Option InnerValue → Option InnerValue → ℕ → ℕ → ℕ → Type 0
+GetsLimit name old new before after status = Over old new (IsShut new before after status) (TellsLimit name before after status)
 
 -- What a close does: a device that was open is open no longer, and how much of it was not told is told; one that was not open has
 -- status 3.

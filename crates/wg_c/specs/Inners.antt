@@ -64,17 +64,18 @@ pub record NothingHasChanged (old new : InnerValue) : Type 0 where
 abbrev pub answer_to : InnerValue → Event → Reply
 answer_to old event = reply_to old.desk.setup (reverse old.desk.history) event
 
--- An event was sent: the history has its entry, what came to the trace waits with the items, and what was settled with the settlements.
-pub record HasDone (old new : InnerValue) (who : ℕ) (event : Event) : Type 0 where
+-- An event was sent: the history has its entry, of the caller 0, what came to the trace waits with the items, and what was settled with
+-- the settlements.
+pub record HasDone (old new : InnerValue) (event : Event) : Type 0 where
   pub setup : new.desk.setup ≡ old.desk.setup
-  pub sent : HasSent old.desk new.desk who event (answer_to old event)
+  pub sent : HasSent old.desk new.desk 0 event (answer_to old event)
   pub grown : HandsOutGrowth old.desk new.desk old.items new.items
   pub still : new.told ≡ old.told
   pub settled : new.settled ≡ old.settled ++ (answer_to old event).settled
 
 -- A call was made, and this is what was told of it.
-pub record HasAsked (old new : InnerValue) (who : ℕ) (request : RequestOf ℕ) (out : ToldReply) : Type 0 where
-  pub done : HasDone old new who (event_sent old.desk.seats request)
+pub record HasAsked (old new : InnerValue) (request : RequestOf ℕ) (out : ToldReply) : Type 0 where
+  pub done : HasDone old new (event_sent old.desk.seats request)
   pub seats : new.desk.seats ≡ seats_after old.desk.setup.serial old.desk.seats request (answer_to old (event_sent old.desk.seats request)).answer
   pub number : IsNumber (answer_to old (event_sent old.desk.seats request)).answer (length old.desk.seats)
   pub out_is : out ≡ reply_told (answer_to old (event_sent old.desk.seats request)) (length old.desk.history) 0
@@ -88,8 +89,8 @@ abbrev pub late_event : InnerValue → ℕ → Event
 late_event old encoder = Late (found_at old.desk.seats encoder).reference
 
 -- A late command was told as its event, and changed no seat.
-pub record HasComeLate (old new : InnerValue) (who encoder : ℕ) (command : CommandOf ℕ) (out : ToldReply) : Type 0 where
-  pub done : HasDone old new who (late_event old encoder)
+pub record HasComeLate (old new : InnerValue) (encoder : ℕ) (command : CommandOf ℕ) (out : ToldReply) : Type 0 where
+  pub done : HasDone old new (late_event old encoder)
   pub seats : new.desk.seats ≡ old.desk.seats
   pub out_is : out ≡ reply_told (answer_to old (late_event old encoder)) (length old.desk.history) (pass_number old encoder command)
 
@@ -104,9 +105,9 @@ pub record HasKept (old new : InnerValue) (encoder : ℕ) (on : On) (command : C
   pub out_is : out ≡ kept_told (pass_number old encoder command)
 
 -- A command came late, which is an event, or was kept.
-abbrev pub HasRecorded : InnerValue → InnerValue → ℕ → ℕ → On → CommandOf ℕ → ToldReply → Type 0
-HasRecorded old new who encoder on command out =
-    MatchBool (is_late_at old.desk.seats encoder on) (HasComeLate old new who encoder command out) (HasKept old new encoder on command out)
+abbrev pub HasRecorded : InnerValue → InnerValue → ℕ → On → CommandOf ℕ → ToldReply → Type 0
+HasRecorded old new encoder on command out =
+    MatchBool (is_late_at old.desk.seats encoder on) (HasComeLate old new encoder command out) (HasKept old new encoder on command out)
 
 -- why a call was not made; want of memory is the one free reason
 abbrev pub IsCause : DeskError → Bool → Bool → Type 0

@@ -40,10 +40,10 @@ pub fn give(device: &mut Device, inner: Box<Inner>)
 
 impl Inner {
     /// Makes a call of an open device.
-    fn answer(&mut self, who: u32, request: &RequestOf<u64>, out: &mut ToldReply) -> u32
-        ensures { AsksOpen (Some request.now) who out.old out.new result self.old self.new }
+    fn answer(&mut self, request: &RequestOf<u64>, out: &mut ToldReply) -> u32
+        ensures { AsksOpen (Some request.now) out.old out.new result self.old self.new }
     {
-        match self.ask(who, request) {
+        match self.ask(request) {
             Ok(told) => {
                 *out = told;
                 OK
@@ -55,17 +55,10 @@ impl Inner {
     }
 
     /// Records a command on an open device.
-    fn note(
-        &mut self,
-        who: u32,
-        encoder: u64,
-        on: On,
-        command: &CommandOf<u64>,
-        out: &mut ToldReply,
-    ) -> u32
-        ensures { RecordsOpen (Some command.now) who encoder on out.old out.new result self.old self.new }
+    fn note(&mut self, encoder: u64, on: On, command: &CommandOf<u64>, out: &mut ToldReply) -> u32
+        ensures { RecordsOpen (Some command.now) encoder on out.old out.new result self.old self.new }
     {
-        match self.record(who, encoder, on, command) {
+        match self.record(encoder, on, command) {
             Ok(told) => {
                 *out = told;
                 OK
@@ -82,18 +75,17 @@ impl Inner {
 pub fn ask(
     device: &mut Device,
     alloc: Global,
-    who: u32,
     request: Result<Option<RequestOf<u64>>, NoMemory>,
     out: &mut ToldReply,
 ) -> u32
-    ensures { (asked : Option (Request ℕ)) → IfOk request (λ made. made ≡ asked) → Asks asked who device.old.inside device.new.inside out.old out.new result }
+    ensures { (asked : Option (Request ℕ)) → IfOk request (λ made. made ≡ asked) → Asks asked device.old.inside device.new.inside out.old out.new result }
 {
     let Some(mut inner) = take(device, alloc) else {
         return CLOSED;
     };
     match request {
         Ok(Some(request)) => {
-            let status = inner.answer(who, &request, out);
+            let status = inner.answer(&request, out);
             give(device, inner);
             status
         }
@@ -112,15 +104,14 @@ pub fn ask(
 pub fn ask_made(
     device: &mut Device,
     alloc: Global,
-    who: u32,
     request: Result<RequestOf<u64>, NoMemory>,
     out: &mut ToldReply,
 ) -> u32
-    ensures { (asked : Request ℕ) → IfOk request (λ made. made ≡ asked) → Asks (Some asked) who device.old.inside device.new.inside out.old out.new result }
+    ensures { (asked : Request ℕ) → IfOk request (λ made. made ≡ asked) → Asks (Some asked) device.old.inside device.new.inside out.old out.new result }
 {
     match request {
-        Ok(request) => ask(device, alloc, who, Ok(Some(request)), out),
-        Err(_) => ask(device, alloc, who, Err(NoMemory), out),
+        Ok(request) => ask(device, alloc, Ok(Some(request)), out),
+        Err(_) => ask(device, alloc, Err(NoMemory), out),
     }
 }
 
@@ -129,13 +120,12 @@ pub fn ask_made(
 pub fn record(
     device: &mut Device,
     alloc: Global,
-    who: u32,
     encoder: u64,
     pass: u32,
     command: Result<Option<CommandOf<u64>>, NoMemory>,
     out: &mut ToldReply,
 ) -> u32
-    ensures { (asked : Option (Command ℕ)) → IfOk command (λ made. made ≡ asked) → Records asked who encoder (on_of pass) device.old.inside device.new.inside out.old out.new result }
+    ensures { (asked : Option (Command ℕ)) → IfOk command (λ made. made ≡ asked) → Records asked encoder (on_of pass) device.old.inside device.new.inside out.old out.new result }
 {
     let on = on_of(pass);
     let Some(mut inner) = take(device, alloc) else {
@@ -143,7 +133,7 @@ pub fn record(
     };
     match command {
         Ok(Some(command)) => {
-            let status = inner.note(who, encoder, on, &command, out);
+            let status = inner.note(encoder, on, &command, out);
             give(device, inner);
             status
         }
@@ -162,16 +152,15 @@ pub fn record(
 pub fn record_made(
     device: &mut Device,
     alloc: Global,
-    who: u32,
     encoder: u64,
     pass: u32,
     command: Result<CommandOf<u64>, NoMemory>,
     out: &mut ToldReply,
 ) -> u32
-    ensures { (asked : Command ℕ) → IfOk command (λ made. made ≡ asked) → Records (Some asked) who encoder (on_of pass) device.old.inside device.new.inside out.old out.new result }
+    ensures { (asked : Command ℕ) → IfOk command (λ made. made ≡ asked) → Records (Some asked) encoder (on_of pass) device.old.inside device.new.inside out.old out.new result }
 {
     match command {
-        Ok(command) => record(device, alloc, who, encoder, pass, Ok(Some(command)), out),
-        Err(_) => record(device, alloc, who, encoder, pass, Err(NoMemory), out),
+        Ok(command) => record(device, alloc, encoder, pass, Ok(Some(command)), out),
+        Err(_) => record(device, alloc, encoder, pass, Err(NoMemory), out),
     }
 }

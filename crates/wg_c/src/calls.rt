@@ -20,13 +20,12 @@ use wg_types::requests::RequestOf;
 pub extern "C" fn wethlorn_create_buffer(
     alloc: Global,
     device: &mut Device,
-    who: u32,
     desc: &FlatBuffer,
     out: &mut ToldReply,
 ) -> u32
-    ensures { Asks (asked.create_buffer desc.now) who device.old.inside device.new.inside out.old out.new result }
+    ensures { Asks (asked.create_buffer desc.now) device.old.inside device.new.inside out.old out.new result }
 {
-    ask(device, alloc, who, Ok(requests::create_buffer(desc)), out)
+    ask(device, alloc, Ok(requests::create_buffer(desc)), out)
 }
 
 /// Makes a texture.
@@ -34,13 +33,12 @@ pub extern "C" fn wethlorn_create_buffer(
 pub extern "C" fn wethlorn_create_texture(
     alloc: Global,
     device: &mut Device,
-    who: u32,
     desc: &FlatTexture,
     out: &mut ToldReply,
 ) -> u32
-    ensures { Asks (asked.create_texture desc.now) who device.old.inside device.new.inside out.old out.new result }
+    ensures { Asks (asked.create_texture desc.now) device.old.inside device.new.inside out.old out.new result }
 {
-    ask(device, alloc, who, Ok(requests::create_texture(desc)), out)
+    ask(device, alloc, Ok(requests::create_texture(desc)), out)
 }
 
 /// Makes a view.
@@ -48,20 +46,13 @@ pub extern "C" fn wethlorn_create_texture(
 pub extern "C" fn wethlorn_create_view(
     alloc: Global,
     device: &mut Device,
-    who: u32,
     texture: u64,
     desc: &FlatView,
     out: &mut ToldReply,
 ) -> u32
-    ensures { Asks (asked.create_view texture desc.now) who device.old.inside device.new.inside out.old out.new result }
+    ensures { Asks (asked.create_view texture desc.now) device.old.inside device.new.inside out.old out.new result }
 {
-    ask(
-        device,
-        alloc,
-        who,
-        Ok(requests::create_view(texture, desc)),
-        out,
-    )
+    ask(device, alloc, Ok(requests::create_view(texture, desc)), out)
 }
 
 /// Makes a sampler.
@@ -69,13 +60,12 @@ pub extern "C" fn wethlorn_create_view(
 pub extern "C" fn wethlorn_create_sampler(
     alloc: Global,
     device: &mut Device,
-    who: u32,
     kind: u32,
     out: &mut ToldReply,
 ) -> u32
-    ensures { Asks (asked.create_sampler kind) who device.old.inside device.new.inside out.old out.new result }
+    ensures { Asks (asked.create_sampler kind) device.old.inside device.new.inside out.old out.new result }
 {
-    ask(device, alloc, who, Ok(requests::create_sampler(kind)), out)
+    ask(device, alloc, Ok(requests::create_sampler(kind)), out)
 }
 
 /// Makes a bind group layout.
@@ -83,16 +73,14 @@ pub extern "C" fn wethlorn_create_sampler(
 pub extern "C" fn wethlorn_create_bind_group_layout(
     alloc: Global,
     device: &mut Device,
-    who: u32,
     entries: &[FlatLayoutEntry],
     out: &mut ToldReply,
 ) -> u32
-    ensures { Asks (asked.create_bind_group_layout entries.now) who device.old.inside device.new.inside out.old out.new result }
+    ensures { Asks (asked.create_bind_group_layout entries.now) device.old.inside device.new.inside out.old out.new result }
 {
     ask(
         device,
         alloc,
-        who,
         requests::create_bind_group_layout(alloc, entries),
         out,
     )
@@ -103,16 +91,14 @@ pub extern "C" fn wethlorn_create_bind_group_layout(
 pub extern "C" fn wethlorn_create_pipeline_layout(
     alloc: Global,
     device: &mut Device,
-    who: u32,
     layouts: &[u64],
     out: &mut ToldReply,
 ) -> u32
-    ensures { Asks (Some (request.CreatePipelineLayout layouts.now)) who device.old.inside device.new.inside out.old out.new result }
+    ensures { Asks (Some (request.CreatePipelineLayout layouts.now)) device.old.inside device.new.inside out.old out.new result }
 {
     ask_made(
         device,
         alloc,
-        who,
         requests::create_pipeline_layout(alloc, layouts),
         out,
     )
@@ -123,17 +109,15 @@ pub extern "C" fn wethlorn_create_pipeline_layout(
 pub extern "C" fn wethlorn_create_bind_group(
     alloc: Global,
     device: &mut Device,
-    who: u32,
     layout: u64,
     entries: &[FlatGroupEntry],
     out: &mut ToldReply,
 ) -> u32
-    ensures { Asks (asked.create_bind_group layout entries.now) who device.old.inside device.new.inside out.old out.new result }
+    ensures { Asks (asked.create_bind_group layout entries.now) device.old.inside device.new.inside out.old out.new result }
 {
     ask(
         device,
         alloc,
-        who,
         requests::create_bind_group(alloc, layout, entries),
         out,
     )
@@ -144,17 +128,15 @@ pub extern "C" fn wethlorn_create_bind_group(
 pub extern "C" fn wethlorn_create_compute_pipeline(
     alloc: Global,
     device: &mut Device,
-    who: u32,
     layout: u64,
     iface: &[FlatIfaceEntry],
     out: &mut ToldReply,
 ) -> u32
-    ensures { Asks (asked.create_compute_pipeline layout iface.now) who device.old.inside device.new.inside out.old out.new result }
+    ensures { Asks (asked.create_compute_pipeline layout iface.now) device.old.inside device.new.inside out.old out.new result }
 {
     ask(
         device,
         alloc,
-        who,
         requests::create_compute_pipeline(alloc, layout, iface),
         out,
     )
@@ -165,7 +147,6 @@ pub extern "C" fn wethlorn_create_compute_pipeline(
 pub extern "C" fn wethlorn_create_render_pipeline(
     alloc: Global,
     device: &mut Device,
-    who: u32,
     desc: &FlatRender,
     iface: &[FlatIfaceEntry],
     buffers: &[FlatVertexBuffer],
@@ -173,12 +154,11 @@ pub extern "C" fn wethlorn_create_render_pipeline(
     targets: &[u32],
     out: &mut ToldReply,
 ) -> u32
-    ensures { Asks (asked.create_render_pipeline desc.now iface.now buffers.now attributes.now targets.now) who device.old.inside device.new.inside out.old out.new result }
+    ensures { Asks (asked.create_render_pipeline desc.now iface.now buffers.now attributes.now targets.now) device.old.inside device.new.inside out.old out.new result }
 {
     ask(
         device,
         alloc,
-        who,
         requests::create_render_pipeline(alloc, desc, iface, buffers, attributes, targets),
         out,
     )
@@ -189,17 +169,15 @@ pub extern "C" fn wethlorn_create_render_pipeline(
 pub extern "C" fn wethlorn_get_bind_group_layout(
     alloc: Global,
     device: &mut Device,
-    who: u32,
     pipeline: u64,
     index: u32,
     out: &mut ToldReply,
 ) -> u32
-    ensures { Asks (Some (request.GetBindGroupLayout pipeline index)) who device.old.inside device.new.inside out.old out.new result }
+    ensures { Asks (Some (request.GetBindGroupLayout pipeline index)) device.old.inside device.new.inside out.old out.new result }
 {
     ask(
         device,
         alloc,
-        who,
         Ok(Some(RequestOf::GetBindGroupLayout { pipeline, index })),
         out,
     )
@@ -210,16 +188,14 @@ pub extern "C" fn wethlorn_get_bind_group_layout(
 pub extern "C" fn wethlorn_create_query_set(
     alloc: Global,
     device: &mut Device,
-    who: u32,
     count: u32,
     out: &mut ToldReply,
 ) -> u32
-    ensures { Asks (Some (request.CreateQuerySet (record { count = count }))) who device.old.inside device.new.inside out.old out.new result }
+    ensures { Asks (Some (request.CreateQuerySet (record { count = count }))) device.old.inside device.new.inside out.old out.new result }
 {
     ask(
         device,
         alloc,
-        who,
         Ok(Some(RequestOf::CreateQuerySet {
             info: QueriesInfo { count },
         })),
@@ -232,12 +208,11 @@ pub extern "C" fn wethlorn_create_query_set(
 pub extern "C" fn wethlorn_create_encoder(
     alloc: Global,
     device: &mut Device,
-    who: u32,
     out: &mut ToldReply,
 ) -> u32
-    ensures { Asks (Some request.CreateEncoder) who device.old.inside device.new.inside out.old out.new result }
+    ensures { Asks (Some request.CreateEncoder) device.old.inside device.new.inside out.old out.new result }
 {
-    ask(device, alloc, who, Ok(Some(RequestOf::CreateEncoder)), out)
+    ask(device, alloc, Ok(Some(RequestOf::CreateEncoder)), out)
 }
 
 /// Makes a bundle encoder.
@@ -245,17 +220,15 @@ pub extern "C" fn wethlorn_create_encoder(
 pub extern "C" fn wethlorn_create_bundle_encoder(
     alloc: Global,
     device: &mut Device,
-    who: u32,
     desc: &FlatBundle,
     colors: &[u32],
     out: &mut ToldReply,
 ) -> u32
-    ensures { Asks (asked.create_bundle_encoder desc.now colors.now) who device.old.inside device.new.inside out.old out.new result }
+    ensures { Asks (asked.create_bundle_encoder desc.now colors.now) device.old.inside device.new.inside out.old out.new result }
 {
     ask(
         device,
         alloc,
-        who,
         requests::create_bundle_encoder(alloc, desc, colors),
         out,
     )
@@ -266,17 +239,10 @@ pub extern "C" fn wethlorn_create_bundle_encoder(
 pub extern "C" fn wethlorn_finish(
     alloc: Global,
     device: &mut Device,
-    who: u32,
     encoder: u64,
     out: &mut ToldReply,
 ) -> u32
-    ensures { Asks (Some (request.Finish encoder)) who device.old.inside device.new.inside out.old out.new result }
+    ensures { Asks (Some (request.Finish encoder)) device.old.inside device.new.inside out.old out.new result }
 {
-    ask(
-        device,
-        alloc,
-        who,
-        Ok(Some(RequestOf::Finish { encoder })),
-        out,
-    )
+    ask(device, alloc, Ok(Some(RequestOf::Finish { encoder })), out)
 }

@@ -19,16 +19,14 @@ use wg_types::commands::CommandOf;
 pub extern "C" fn wethlorn_begin_compute_pass(
     alloc: Global,
     device: &mut Device,
-    who: u32,
     encoder: u64,
     out: &mut ToldReply,
 ) -> u32
-    ensures { Records (Some command.BeginComputePass) who encoder Encoder device.old.inside device.new.inside out.old out.new result }
+    ensures { Records (Some command.BeginComputePass) encoder Encoder device.old.inside device.new.inside out.old out.new result }
 {
     record(
         device,
         alloc,
-        who,
         encoder,
         u32::MAX,
         Ok(Some(CommandOf::BeginComputePass)),
@@ -41,19 +39,17 @@ pub extern "C" fn wethlorn_begin_compute_pass(
 pub extern "C" fn wethlorn_begin_render_pass(
     alloc: Global,
     device: &mut Device,
-    who: u32,
     encoder: u64,
     colors: &[FlatColor],
     depth: &FlatDepth,
     queries: u64,
     out: &mut ToldReply,
 ) -> u32
-    ensures { Records (asked.begin_render_pass colors.now depth.now queries) who encoder Encoder device.old.inside device.new.inside out.old out.new result }
+    ensures { Records (asked.begin_render_pass colors.now depth.now queries) encoder Encoder device.old.inside device.new.inside out.old out.new result }
 {
     record(
         device,
         alloc,
-        who,
         encoder,
         u32::MAX,
         commands::begin_render_pass(alloc, colors, depth, queries),
@@ -66,22 +62,13 @@ pub extern "C" fn wethlorn_begin_render_pass(
 pub extern "C" fn wethlorn_end(
     alloc: Global,
     device: &mut Device,
-    who: u32,
     encoder: u64,
     pass: u32,
     out: &mut ToldReply,
 ) -> u32
-    ensures { Records (Some command.End) who encoder (on_of pass) device.old.inside device.new.inside out.old out.new result }
+    ensures { Records (Some command.End) encoder (on_of pass) device.old.inside device.new.inside out.old out.new result }
 {
-    record(
-        device,
-        alloc,
-        who,
-        encoder,
-        pass,
-        Ok(Some(CommandOf::End)),
-        out,
-    )
+    record(device, alloc, encoder, pass, Ok(Some(CommandOf::End)), out)
 }
 
 /// Opens a debug group.
@@ -89,17 +76,15 @@ pub extern "C" fn wethlorn_end(
 pub extern "C" fn wethlorn_push_debug_group(
     alloc: Global,
     device: &mut Device,
-    who: u32,
     encoder: u64,
     pass: u32,
     out: &mut ToldReply,
 ) -> u32
-    ensures { Records (Some command.PushDebugGroup) who encoder (on_of pass) device.old.inside device.new.inside out.old out.new result }
+    ensures { Records (Some command.PushDebugGroup) encoder (on_of pass) device.old.inside device.new.inside out.old out.new result }
 {
     record(
         device,
         alloc,
-        who,
         encoder,
         pass,
         Ok(Some(CommandOf::PushDebugGroup)),
@@ -112,17 +97,15 @@ pub extern "C" fn wethlorn_push_debug_group(
 pub extern "C" fn wethlorn_pop_debug_group(
     alloc: Global,
     device: &mut Device,
-    who: u32,
     encoder: u64,
     pass: u32,
     out: &mut ToldReply,
 ) -> u32
-    ensures { Records (Some command.PopDebugGroup) who encoder (on_of pass) device.old.inside device.new.inside out.old out.new result }
+    ensures { Records (Some command.PopDebugGroup) encoder (on_of pass) device.old.inside device.new.inside out.old out.new result }
 {
     record(
         device,
         alloc,
-        who,
         encoder,
         pass,
         Ok(Some(CommandOf::PopDebugGroup)),
@@ -135,17 +118,15 @@ pub extern "C" fn wethlorn_pop_debug_group(
 pub extern "C" fn wethlorn_copy_buffer_to_buffer(
     alloc: Global,
     device: &mut Device,
-    who: u32,
     encoder: u64,
     copy: &FlatBufferCopy,
     out: &mut ToldReply,
 ) -> u32
-    ensures { Records (Some (asked.copy_buffer_to_buffer copy.now)) who encoder Encoder device.old.inside device.new.inside out.old out.new result }
+    ensures { Records (Some (asked.copy_buffer_to_buffer copy.now)) encoder Encoder device.old.inside device.new.inside out.old out.new result }
 {
     record(
         device,
         alloc,
-        who,
         encoder,
         u32::MAX,
         Ok(Some(commands::copy_buffer_to_buffer(copy))),
@@ -158,17 +139,15 @@ pub extern "C" fn wethlorn_copy_buffer_to_buffer(
 pub extern "C" fn wethlorn_copy_buffer_to_texture(
     alloc: Global,
     device: &mut Device,
-    who: u32,
     encoder: u64,
     copy: &FlatTexelCopy,
     out: &mut ToldReply,
 ) -> u32
-    ensures { Records (asked.copy_buffer_to_texture copy.now) who encoder Encoder device.old.inside device.new.inside out.old out.new result }
+    ensures { Records (asked.copy_buffer_to_texture copy.now) encoder Encoder device.old.inside device.new.inside out.old out.new result }
 {
     record(
         device,
         alloc,
-        who,
         encoder,
         u32::MAX,
         Ok(commands::copy_buffer_to_texture(copy)),
@@ -181,17 +160,15 @@ pub extern "C" fn wethlorn_copy_buffer_to_texture(
 pub extern "C" fn wethlorn_copy_texture_to_buffer(
     alloc: Global,
     device: &mut Device,
-    who: u32,
     encoder: u64,
     copy: &FlatTexelCopy,
     out: &mut ToldReply,
 ) -> u32
-    ensures { Records (asked.copy_texture_to_buffer copy.now) who encoder Encoder device.old.inside device.new.inside out.old out.new result }
+    ensures { Records (asked.copy_texture_to_buffer copy.now) encoder Encoder device.old.inside device.new.inside out.old out.new result }
 {
     record(
         device,
         alloc,
-        who,
         encoder,
         u32::MAX,
         Ok(commands::copy_texture_to_buffer(copy)),
@@ -204,17 +181,15 @@ pub extern "C" fn wethlorn_copy_texture_to_buffer(
 pub extern "C" fn wethlorn_copy_texture_to_texture(
     alloc: Global,
     device: &mut Device,
-    who: u32,
     encoder: u64,
     copy: &FlatTextureCopy,
     out: &mut ToldReply,
 ) -> u32
-    ensures { Records (Some (asked.copy_texture_to_texture copy.now)) who encoder Encoder device.old.inside device.new.inside out.old out.new result }
+    ensures { Records (Some (asked.copy_texture_to_texture copy.now)) encoder Encoder device.old.inside device.new.inside out.old out.new result }
 {
     record(
         device,
         alloc,
-        who,
         encoder,
         u32::MAX,
         Ok(Some(commands::copy_texture_to_texture(copy))),
@@ -227,19 +202,17 @@ pub extern "C" fn wethlorn_copy_texture_to_texture(
 pub extern "C" fn wethlorn_clear_buffer(
     alloc: Global,
     device: &mut Device,
-    who: u32,
     encoder: u64,
     buffer: u64,
     offset: u64,
     size: u64,
     out: &mut ToldReply,
 ) -> u32
-    ensures { Records (Some (command.ClearBuffer buffer offset (wide_of size))) who encoder Encoder device.old.inside device.new.inside out.old out.new result }
+    ensures { Records (Some (command.ClearBuffer buffer offset (wide_of size))) encoder Encoder device.old.inside device.new.inside out.old out.new result }
 {
     record(
         device,
         alloc,
-        who,
         encoder,
         u32::MAX,
         Ok(Some(CommandOf::ClearBuffer {
@@ -256,7 +229,6 @@ pub extern "C" fn wethlorn_clear_buffer(
 pub extern "C" fn wethlorn_resolve_query_set(
     alloc: Global,
     device: &mut Device,
-    who: u32,
     encoder: u64,
     queries: u64,
     first: u32,
@@ -265,12 +237,11 @@ pub extern "C" fn wethlorn_resolve_query_set(
     offset: u64,
     out: &mut ToldReply,
 ) -> u32
-    ensures { Records (Some (command.ResolveQuerySet queries first count buffer offset)) who encoder Encoder device.old.inside device.new.inside out.old out.new result }
+    ensures { Records (Some (command.ResolveQuerySet queries first count buffer offset)) encoder Encoder device.old.inside device.new.inside out.old out.new result }
 {
     record(
         device,
         alloc,
-        who,
         encoder,
         u32::MAX,
         Ok(Some(CommandOf::ResolveQuerySet {

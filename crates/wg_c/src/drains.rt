@@ -8,7 +8,7 @@ use crate::statuses::{CLOSED, END, NO_ROOM, OK};
 use std::alloc::Global;
 use wg_told::{ToldAccess, ToldCounts, ToldItem, ToldSettlement, ToldUse};
 
-/// Tells the next item of the trace.
+/// Tells the next item of the trace. What earlier calls have given back is dropped first.
 #[unsafe(no_mangle)]
 pub extern "C" fn wethlorn_next_item(alloc: Global, device: &mut Device, out: &mut ToldItem) -> u32
     ensures { NextItem device.old.inside device.new.inside out.old out.new result }
@@ -16,6 +16,7 @@ pub extern "C" fn wethlorn_next_item(alloc: Global, device: &mut Device, out: &m
     let Some(mut inner) = take(device, alloc) else {
         return CLOSED;
     };
+    inner.drop_spent();
     let next = inner.next_item();
     give(device, inner);
     match next {
@@ -27,7 +28,8 @@ pub extern "C" fn wethlorn_next_item(alloc: Global, device: &mut Device, out: &m
     }
 }
 
-/// Tells as many of the next items of the trace as there is room for, with their uses and accesses.
+/// Tells as many of the next items of the trace as there is room for, with their uses and accesses. What earlier
+/// calls have given back is dropped first.
 #[unsafe(no_mangle)]
 pub extern "C" fn wethlorn_next_items(
     alloc: Global,
@@ -44,6 +46,7 @@ pub extern "C" fn wethlorn_next_items(
     let Some(mut inner) = take(device, alloc) else {
         return CLOSED;
     };
+    inner.drop_spent();
     let drained = inner.next_items(items, uses, accesses);
     give(device, inner);
     match drained {

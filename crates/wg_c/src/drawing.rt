@@ -17,18 +17,16 @@ use wg_types::commands::CommandOf;
 pub extern "C" fn wethlorn_set_pipeline(
     alloc: Global,
     device: &mut Device,
-    who: u32,
     encoder: u64,
     pass: u32,
     pipeline: u64,
     out: &mut ToldReply,
 ) -> u32
-    ensures { Records (Some (command.SetPipeline pipeline)) who encoder (on_of pass) device.old.inside device.new.inside out.old out.new result }
+    ensures { Records (Some (command.SetPipeline pipeline)) encoder (on_of pass) device.old.inside device.new.inside out.old out.new result }
 {
     record(
         device,
         alloc,
-        who,
         encoder,
         pass,
         Ok(Some(CommandOf::SetPipeline { pipeline })),
@@ -41,7 +39,6 @@ pub extern "C" fn wethlorn_set_pipeline(
 pub extern "C" fn wethlorn_set_bind_group(
     alloc: Global,
     device: &mut Device,
-    who: u32,
     encoder: u64,
     pass: u32,
     index: u32,
@@ -49,12 +46,11 @@ pub extern "C" fn wethlorn_set_bind_group(
     offsets: &[u32],
     out: &mut ToldReply,
 ) -> u32
-    ensures { Records (Some (command.SetBindGroup index group offsets.now)) who encoder (on_of pass) device.old.inside device.new.inside out.old out.new result }
+    ensures { Records (Some (command.SetBindGroup index group offsets.now)) encoder (on_of pass) device.old.inside device.new.inside out.old out.new result }
 {
     record_made(
         device,
         alloc,
-        who,
         encoder,
         pass,
         commands::set_bind_group(alloc, index, group, offsets),
@@ -67,7 +63,6 @@ pub extern "C" fn wethlorn_set_bind_group(
 pub extern "C" fn wethlorn_dispatch(
     alloc: Global,
     device: &mut Device,
-    who: u32,
     encoder: u64,
     pass: u32,
     x: u32,
@@ -75,12 +70,11 @@ pub extern "C" fn wethlorn_dispatch(
     z: u32,
     out: &mut ToldReply,
 ) -> u32
-    ensures { Records (Some (command.Dispatch x y z)) who encoder (on_of pass) device.old.inside device.new.inside out.old out.new result }
+    ensures { Records (Some (command.Dispatch x y z)) encoder (on_of pass) device.old.inside device.new.inside out.old out.new result }
 {
     record(
         device,
         alloc,
-        who,
         encoder,
         pass,
         Ok(Some(CommandOf::Dispatch { x, y, z })),
@@ -93,19 +87,17 @@ pub extern "C" fn wethlorn_dispatch(
 pub extern "C" fn wethlorn_dispatch_indirect(
     alloc: Global,
     device: &mut Device,
-    who: u32,
     encoder: u64,
     pass: u32,
     buffer: u64,
     offset: u64,
     out: &mut ToldReply,
 ) -> u32
-    ensures { Records (Some (command.DispatchIndirect buffer offset)) who encoder (on_of pass) device.old.inside device.new.inside out.old out.new result }
+    ensures { Records (Some (command.DispatchIndirect buffer offset)) encoder (on_of pass) device.old.inside device.new.inside out.old out.new result }
 {
     record(
         device,
         alloc,
-        who,
         encoder,
         pass,
         Ok(Some(CommandOf::DispatchIndirect { buffer, offset })),
@@ -118,7 +110,6 @@ pub extern "C" fn wethlorn_dispatch_indirect(
 pub extern "C" fn wethlorn_set_vertex_buffer(
     alloc: Global,
     device: &mut Device,
-    who: u32,
     encoder: u64,
     pass: u32,
     slot: u32,
@@ -127,12 +118,11 @@ pub extern "C" fn wethlorn_set_vertex_buffer(
     size: u64,
     out: &mut ToldReply,
 ) -> u32
-    ensures { Records (Some (command.SetVertexBuffer slot buffer offset (wide_of size))) who encoder (on_of pass) device.old.inside device.new.inside out.old out.new result }
+    ensures { Records (Some (command.SetVertexBuffer slot buffer offset (wide_of size))) encoder (on_of pass) device.old.inside device.new.inside out.old out.new result }
 {
     record(
         device,
         alloc,
-        who,
         encoder,
         pass,
         Ok(Some(CommandOf::SetVertexBuffer {
@@ -150,7 +140,6 @@ pub extern "C" fn wethlorn_set_vertex_buffer(
 pub extern "C" fn wethlorn_set_index_buffer(
     alloc: Global,
     device: &mut Device,
-    who: u32,
     encoder: u64,
     pass: u32,
     buffer: u64,
@@ -159,12 +148,11 @@ pub extern "C" fn wethlorn_set_index_buffer(
     size: u64,
     out: &mut ToldReply,
 ) -> u32
-    ensures { Records (asked.set_index_buffer buffer format offset size) who encoder (on_of pass) device.old.inside device.new.inside out.old out.new result }
+    ensures { Records (asked.set_index_buffer buffer format offset size) encoder (on_of pass) device.old.inside device.new.inside out.old out.new result }
 {
     record(
         device,
         alloc,
-        who,
         encoder,
         pass,
         Ok(commands::set_index_buffer(buffer, format, offset, size)),
@@ -177,7 +165,6 @@ pub extern "C" fn wethlorn_set_index_buffer(
 pub extern "C" fn wethlorn_draw(
     alloc: Global,
     device: &mut Device,
-    who: u32,
     encoder: u64,
     pass: u32,
     vertices: u32,
@@ -186,12 +173,11 @@ pub extern "C" fn wethlorn_draw(
     first_instance: u32,
     out: &mut ToldReply,
 ) -> u32
-    ensures { Records (Some (command.Draw vertices instances first_vertex first_instance)) who encoder (on_of pass) device.old.inside device.new.inside out.old out.new result }
+    ensures { Records (Some (command.Draw vertices instances first_vertex first_instance)) encoder (on_of pass) device.old.inside device.new.inside out.old out.new result }
 {
     record(
         device,
         alloc,
-        who,
         encoder,
         pass,
         Ok(Some(CommandOf::Draw {
@@ -209,7 +195,6 @@ pub extern "C" fn wethlorn_draw(
 pub extern "C" fn wethlorn_draw_indexed(
     alloc: Global,
     device: &mut Device,
-    who: u32,
     encoder: u64,
     pass: u32,
     indices: u32,
@@ -218,12 +203,11 @@ pub extern "C" fn wethlorn_draw_indexed(
     first_instance: u32,
     out: &mut ToldReply,
 ) -> u32
-    ensures { Records (Some (command.DrawIndexed indices instances first_index first_instance)) who encoder (on_of pass) device.old.inside device.new.inside out.old out.new result }
+    ensures { Records (Some (command.DrawIndexed indices instances first_index first_instance)) encoder (on_of pass) device.old.inside device.new.inside out.old out.new result }
 {
     record(
         device,
         alloc,
-        who,
         encoder,
         pass,
         Ok(Some(CommandOf::DrawIndexed {
@@ -241,19 +225,17 @@ pub extern "C" fn wethlorn_draw_indexed(
 pub extern "C" fn wethlorn_draw_indirect(
     alloc: Global,
     device: &mut Device,
-    who: u32,
     encoder: u64,
     pass: u32,
     buffer: u64,
     offset: u64,
     out: &mut ToldReply,
 ) -> u32
-    ensures { Records (Some (command.DrawIndirect buffer offset)) who encoder (on_of pass) device.old.inside device.new.inside out.old out.new result }
+    ensures { Records (Some (command.DrawIndirect buffer offset)) encoder (on_of pass) device.old.inside device.new.inside out.old out.new result }
 {
     record(
         device,
         alloc,
-        who,
         encoder,
         pass,
         Ok(Some(CommandOf::DrawIndirect { buffer, offset })),
@@ -266,19 +248,17 @@ pub extern "C" fn wethlorn_draw_indirect(
 pub extern "C" fn wethlorn_draw_indexed_indirect(
     alloc: Global,
     device: &mut Device,
-    who: u32,
     encoder: u64,
     pass: u32,
     buffer: u64,
     offset: u64,
     out: &mut ToldReply,
 ) -> u32
-    ensures { Records (Some (command.DrawIndexedIndirect buffer offset)) who encoder (on_of pass) device.old.inside device.new.inside out.old out.new result }
+    ensures { Records (Some (command.DrawIndexedIndirect buffer offset)) encoder (on_of pass) device.old.inside device.new.inside out.old out.new result }
 {
     record(
         device,
         alloc,
-        who,
         encoder,
         pass,
         Ok(Some(CommandOf::DrawIndexedIndirect { buffer, offset })),
@@ -291,18 +271,16 @@ pub extern "C" fn wethlorn_draw_indexed_indirect(
 pub extern "C" fn wethlorn_begin_occlusion_query(
     alloc: Global,
     device: &mut Device,
-    who: u32,
     encoder: u64,
     pass: u32,
     index: u32,
     out: &mut ToldReply,
 ) -> u32
-    ensures { Records (Some (command.BeginOcclusionQuery index)) who encoder (on_of pass) device.old.inside device.new.inside out.old out.new result }
+    ensures { Records (Some (command.BeginOcclusionQuery index)) encoder (on_of pass) device.old.inside device.new.inside out.old out.new result }
 {
     record(
         device,
         alloc,
-        who,
         encoder,
         pass,
         Ok(Some(CommandOf::BeginOcclusionQuery { index })),
@@ -315,17 +293,15 @@ pub extern "C" fn wethlorn_begin_occlusion_query(
 pub extern "C" fn wethlorn_end_occlusion_query(
     alloc: Global,
     device: &mut Device,
-    who: u32,
     encoder: u64,
     pass: u32,
     out: &mut ToldReply,
 ) -> u32
-    ensures { Records (Some command.EndOcclusionQuery) who encoder (on_of pass) device.old.inside device.new.inside out.old out.new result }
+    ensures { Records (Some command.EndOcclusionQuery) encoder (on_of pass) device.old.inside device.new.inside out.old out.new result }
 {
     record(
         device,
         alloc,
-        who,
         encoder,
         pass,
         Ok(Some(CommandOf::EndOcclusionQuery)),
@@ -338,18 +314,16 @@ pub extern "C" fn wethlorn_end_occlusion_query(
 pub extern "C" fn wethlorn_execute_bundles(
     alloc: Global,
     device: &mut Device,
-    who: u32,
     encoder: u64,
     pass: u32,
     bundles: &[u64],
     out: &mut ToldReply,
 ) -> u32
-    ensures { Records (Some (command.ExecuteBundles bundles.now)) who encoder (on_of pass) device.old.inside device.new.inside out.old out.new result }
+    ensures { Records (Some (command.ExecuteBundles bundles.now)) encoder (on_of pass) device.old.inside device.new.inside out.old out.new result }
 {
     record_made(
         device,
         alloc,
-        who,
         encoder,
         pass,
         commands::execute_bundles(alloc, bundles),

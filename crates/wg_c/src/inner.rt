@@ -1,8 +1,10 @@
 //! What lies behind a device: the desk, and what waits to be told.
-ghost use Rattle.std.specs.Prelude.{◌≡◌, ◌+◌, ◌||◌, [], false, length, slice_get, Some, None, IfOk, IfErr, IfSome, IfNone, OnErr, option_map, option_and_then, is_none, if◌then◌else◌};
+ghost use Rattle.std.specs.Prelude.{◌≡◌, ◌+◌, ◌||◌, [], true, false, length, slice_get, Some, None, IfOk, IfErr, IfSome, IfNone, OnOk, OnErr, option_map, option_and_then, is_none, if◌then◌else◌};
 ghost use Rattle.wg_types.specs.Commands.{is_begin, named as command_named};
 ghost use Rattle.wg_types.specs.Requests.{named};
 ghost use Rattle.wg_desk.specs.Seats.{any_missing, handle_at, is_unbegun, passes_at};
+ghost use Rattle.wg_desk.specs.Desks.{FindsUnsetOn};
+ghost use Rattle.wg_told.specs.Limits.{limit_at};
 ghost use Rattle.wg_told.specs.Replies.{settlement_told};
 ghost use Rattle.wg_told.specs.Items.{item_told, use_told, access_told, uses_of, accesses_of};
 ghost use Rattle.wg_c.specs.Inners.{IsOpened, HasAsked, HasRecorded, NothingHasChanged, IsCause, HasToldNext, HasDrained, last_of, left_in};
@@ -14,7 +16,7 @@ use std::marker::Model;
 use wg_desk::{Desk, DeskError};
 use wg_told::{
     ToldAccess, ToldCounts, ToldItem, ToldReply, ToldSettlement, ToldUse, access_told, item_counts,
-    item_told, kept_told, reply_told, settlement_told, tell_items, use_told,
+    item_told, kept_told, limit_at, reply_told, settlement_told, tell_items, use_told,
 };
 use wg_types::commands::{CommandOf, On};
 use wg_types::limits::Limits;
@@ -22,6 +24,9 @@ use wg_types::parts::{AccessKind, Cells, PartRun};
 use wg_types::requests::RequestOf;
 use wg_types::steps::Item;
 use wg_types::usages::Usages;
+
+/// The caller of each call, by its number in the history: callers in C have no numbers.
+const CALLER: u32 = 0;
 
 /// What a drain of many items has done.
 pub enum Drained {
@@ -33,23 +38,29 @@ pub enum Drained {
     Ended,
 }
 
-/// A desk, with the items and the settlements that wait to be told. Of the items those before `told` were.
+/// A desk, with its limits, and the items and the settlements that wait to be told. Of the items those before `told`
+/// were.
 #[derive(Drop)]
 pub struct Inner {
     desk: Desk,
+    limits: Limits,
     items: Vec<Item>,
     told: usize,
     waiting: Waiting,
 }
 
 impl Model for Inner {
+    ghost use Rattle.std.specs.Prelude.{◌≡◌};
     ghost use Rattle.wg_c.specs.Inners.{InnerValue, AreWaiting};
 
     ghost Value = { InnerValue };
 
     ghost view = { λ i. record { desk = i.desk; items = i.items.items; told = i.told; settled = i.waiting.left } };
 
-    ghost invariant = { λ i. AreWaiting i.desk.setup i.desk.history i.items.items i.told };
+    ghost invariant = { λ i. record {
+      waiting : AreWaiting i.desk.setup i.desk.history i.items.items i.told;
+      limits_are : i.limits ≡ i.desk.setup.limits;
+    } };
 }
 
 /// An item, if there is one.
@@ -86,16 +97,24 @@ impl Inner {
     {
         Inner {
             desk: Desk::open(alloc, budget, serial, limits),
+            limits: *limits,
             items: Vec::new(alloc),
             told: 0,
             waiting: Waiting::new(alloc),
         }
     }
 
+    /// The limit that has a number, if there is one.
+    pub fn limit(&self, name: u32) -> Option<u64>
+        ensures { result ≡ limit_at self.now.desk.setup.limits name }
+    {
+        limit_at(&self.limits, name)
+    }
+
     /// Makes a call. What it adds to the trace and what it settles waits to be told.
     #[tactic(auto, using(crate::proofs::Inside::asked_by))]
-    pub fn ask(&mut self, who: u32, request: &RequestOf<u64>) -> Result<ToldReply, DeskError>
-        ensures done { IfOk result (λ told. HasAsked self.old self.new who request.now told) }
+    pub fn ask(&mut self, request: &RequestOf<u64>) -> Result<ToldReply, DeskError>
+        ensures done { IfOk result (λ told. HasAsked self.old self.new request.now told) }
         ensures cause { IfErr result (λ error. IsCause error (any_missing self.old.desk.seats (named request.now)) false) }
         ensures unchanged { OnErr result (NothingHasChanged self.old self.new) }
     {
@@ -103,7 +122,7 @@ impl Inner {
             return Err(DeskError::NoMemory);
         }
         let entry = self.desk.len();
-        match self.desk.ask(who, request, &mut self.items) {
+        match self.desk.ask(CALLER, request, &mut self.items) {
             Ok(reply) => {
                 let told = reply_told(&reply, entry, 0);
                 self.waiting.push(reply.settled);
@@ -127,12 +146,11 @@ impl Inner {
     #[tactic(auto, using(crate::proofs::Inside::came_late, crate::proofs::Inside::was_kept))]
     pub fn record(
         &mut self,
-        who: u32,
         encoder: u64,
         on: On,
         command: &CommandOf<u64>,
     ) -> Result<ToldReply, DeskError>
-        ensures done { IfOk result (λ told. HasRecorded self.old self.new who encoder on command.now told) }
+        ensures done { IfOk result (λ told. HasRecorded self.old self.new encoder on command.now told) }
         ensures cause { IfErr result (λ error. IsCause error
             (is_none (handle_at self.old.desk.seats encoder) || any_missing self.old.desk.seats (command_named command.now))
             (is_unbegun self.old.desk.seats encoder on)) }
@@ -143,7 +161,10 @@ impl Inner {
         }
         let pass = self.pass_of(encoder, command);
         let entry = self.desk.len();
-        match self.desk.record(who, encoder, on, command, &mut self.items) {
+        match self
+            .desk
+            .record(CALLER, encoder, on, command, &mut self.items)
+        {
             Ok(Some(reply)) => {
                 let told = reply_told(&reply, entry, pass);
                 self.waiting.push(reply.settled);
@@ -152,6 +173,27 @@ impl Inner {
             Ok(None) => Ok(kept_told(pass)),
             Err(error) => Err(error),
         }
+    }
+
+    /// The first bytes of a buffer's range that are unset, as many as stand together.
+    pub fn first_unset(
+        &self,
+        buffer: u64,
+        from: u64,
+        to: u64,
+    ) -> Result<Option<(u64, u64)>, DeskError>
+        ensures unset { IfOk result (λ found. FindsUnsetOn self.now.desk buffer from to found) }
+        ensures found { OnOk result (is_none (handle_at self.now.desk.seats buffer) ≡ false) }
+        ensures missing { OnErr result (is_none (handle_at self.now.desk.seats buffer) ≡ true) }
+    {
+        self.desk.first_unset(buffer, from, to)
+    }
+
+    /// Drops what earlier calls have given back, which no call does itself, since that may take long.
+    pub fn drop_spent(&mut self)
+        ensures { self.new ≡ self.old }
+    {
+        self.desk.drop_spent();
     }
 
     /// The next item. When all are told the list is emptied, and keeps its room.

@@ -11,6 +11,7 @@ mod inner;
 mod left;
 mod parts;
 mod queue;
+mod ranges;
 mod sealed;
 mod statuses;
 mod version;

@@ -17,13 +17,12 @@ use wg_types::requests::RequestOf;
 pub extern "C" fn wethlorn_submit(
     alloc: Global,
     device: &mut Device,
-    who: u32,
     buffers: &[u64],
     out: &mut ToldReply,
 ) -> u32
-    ensures { Asks (Some (request.Submit buffers.now)) who device.old.inside device.new.inside out.old out.new result }
+    ensures { Asks (Some (request.Submit buffers.now)) device.old.inside device.new.inside out.old out.new result }
 {
-    ask_made(device, alloc, who, requests::submit(alloc, buffers), out)
+    ask_made(device, alloc, requests::submit(alloc, buffers), out)
 }
 
 /// Writes to a buffer.
@@ -31,18 +30,16 @@ pub extern "C" fn wethlorn_submit(
 pub extern "C" fn wethlorn_write_buffer(
     alloc: Global,
     device: &mut Device,
-    who: u32,
     buffer: u64,
     offset: u64,
     size: u64,
     out: &mut ToldReply,
 ) -> u32
-    ensures { Asks (Some (request.WriteBuffer buffer offset size)) who device.old.inside device.new.inside out.old out.new result }
+    ensures { Asks (Some (request.WriteBuffer buffer offset size)) device.old.inside device.new.inside out.old out.new result }
 {
     ask(
         device,
         alloc,
-        who,
         Ok(Some(RequestOf::WriteBuffer {
             buffer,
             offset,
@@ -57,13 +54,12 @@ pub extern "C" fn wethlorn_write_buffer(
 pub extern "C" fn wethlorn_write_texture(
     alloc: Global,
     device: &mut Device,
-    who: u32,
     write: &FlatTextureWrite,
     out: &mut ToldReply,
 ) -> u32
-    ensures { Asks (asked.write_texture write.now) who device.old.inside device.new.inside out.old out.new result }
+    ensures { Asks (asked.write_texture write.now) device.old.inside device.new.inside out.old out.new result }
 {
-    ask(device, alloc, who, Ok(requests::write_texture(write)), out)
+    ask(device, alloc, Ok(requests::write_texture(write)), out)
 }
 
 /// Asks for a mapping.
@@ -71,19 +67,17 @@ pub extern "C" fn wethlorn_write_texture(
 pub extern "C" fn wethlorn_map_async(
     alloc: Global,
     device: &mut Device,
-    who: u32,
     buffer: u64,
     mode: u32,
     offset: u64,
     size: u64,
     out: &mut ToldReply,
 ) -> u32
-    ensures { Asks (Some (request.MapAsync buffer mode offset (wide_of size))) who device.old.inside device.new.inside out.old out.new result }
+    ensures { Asks (Some (request.MapAsync buffer mode offset (wide_of size))) device.old.inside device.new.inside out.old out.new result }
 {
     ask(
         device,
         alloc,
-        who,
         Ok(Some(RequestOf::MapAsync {
             buffer,
             mode,
@@ -99,19 +93,12 @@ pub extern "C" fn wethlorn_map_async(
 pub extern "C" fn wethlorn_unmap(
     alloc: Global,
     device: &mut Device,
-    who: u32,
     buffer: u64,
     out: &mut ToldReply,
 ) -> u32
-    ensures { Asks (Some (request.Unmap buffer)) who device.old.inside device.new.inside out.old out.new result }
+    ensures { Asks (Some (request.Unmap buffer)) device.old.inside device.new.inside out.old out.new result }
 {
-    ask(
-        device,
-        alloc,
-        who,
-        Ok(Some(RequestOf::Unmap { buffer })),
-        out,
-    )
+    ask(device, alloc, Ok(Some(RequestOf::Unmap { buffer })), out)
 }
 
 /// Destroys an object.
@@ -119,19 +106,12 @@ pub extern "C" fn wethlorn_unmap(
 pub extern "C" fn wethlorn_destroy(
     alloc: Global,
     device: &mut Device,
-    who: u32,
     object: u64,
     out: &mut ToldReply,
 ) -> u32
-    ensures { Asks (Some (request.Destroy object)) who device.old.inside device.new.inside out.old out.new result }
+    ensures { Asks (Some (request.Destroy object)) device.old.inside device.new.inside out.old out.new result }
 {
-    ask(
-        device,
-        alloc,
-        who,
-        Ok(Some(RequestOf::Destroy { object })),
-        out,
-    )
+    ask(device, alloc, Ok(Some(RequestOf::Destroy { object })), out)
 }
 
 /// Lets go of an object.
@@ -139,19 +119,12 @@ pub extern "C" fn wethlorn_destroy(
 pub extern "C" fn wethlorn_drop(
     alloc: Global,
     device: &mut Device,
-    who: u32,
     object: u64,
     out: &mut ToldReply,
 ) -> u32
-    ensures { Asks (Some (request.Drop object)) who device.old.inside device.new.inside out.old out.new result }
+    ensures { Asks (Some (request.Drop object)) device.old.inside device.new.inside out.old out.new result }
 {
-    ask(
-        device,
-        alloc,
-        who,
-        Ok(Some(RequestOf::Drop { object })),
-        out,
-    )
+    ask(device, alloc, Ok(Some(RequestOf::Drop { object })), out)
 }
 
 /// Says that operations are complete.
@@ -159,32 +132,20 @@ pub extern "C" fn wethlorn_drop(
 pub extern "C" fn wethlorn_complete(
     alloc: Global,
     device: &mut Device,
-    who: u32,
     op: u64,
     out: &mut ToldReply,
 ) -> u32
-    ensures { Asks (Some (request.Complete op)) who device.old.inside device.new.inside out.old out.new result }
+    ensures { Asks (Some (request.Complete op)) device.old.inside device.new.inside out.old out.new result }
 {
-    ask(
-        device,
-        alloc,
-        who,
-        Ok(Some(RequestOf::Complete { op })),
-        out,
-    )
+    ask(device, alloc, Ok(Some(RequestOf::Complete { op })), out)
 }
 
 /// Asks when the work is done.
 #[unsafe(no_mangle)]
-pub extern "C" fn wethlorn_work_done(
-    alloc: Global,
-    device: &mut Device,
-    who: u32,
-    out: &mut ToldReply,
-) -> u32
-    ensures { Asks (Some request.WorkDone) who device.old.inside device.new.inside out.old out.new result }
+pub extern "C" fn wethlorn_work_done(alloc: Global, device: &mut Device, out: &mut ToldReply) -> u32
+    ensures { Asks (Some request.WorkDone) device.old.inside device.new.inside out.old out.new result }
 {
-    ask(device, alloc, who, Ok(Some(RequestOf::WorkDone)), out)
+    ask(device, alloc, Ok(Some(RequestOf::WorkDone)), out)
 }
 
 /// Opens an error scope.
@@ -192,19 +153,12 @@ pub extern "C" fn wethlorn_work_done(
 pub extern "C" fn wethlorn_push_error_scope(
     alloc: Global,
     device: &mut Device,
-    who: u32,
     filter: u32,
     out: &mut ToldReply,
 ) -> u32
-    ensures { Asks (asked.push_error_scope filter) who device.old.inside device.new.inside out.old out.new result }
+    ensures { Asks (asked.push_error_scope filter) device.old.inside device.new.inside out.old out.new result }
 {
-    ask(
-        device,
-        alloc,
-        who,
-        Ok(requests::push_error_scope(filter)),
-        out,
-    )
+    ask(device, alloc, Ok(requests::push_error_scope(filter)), out)
 }
 
 /// Closes an error scope.
@@ -212,23 +166,17 @@ pub extern "C" fn wethlorn_push_error_scope(
 pub extern "C" fn wethlorn_pop_error_scope(
     alloc: Global,
     device: &mut Device,
-    who: u32,
     out: &mut ToldReply,
 ) -> u32
-    ensures { Asks (Some request.PopErrorScope) who device.old.inside device.new.inside out.old out.new result }
+    ensures { Asks (Some request.PopErrorScope) device.old.inside device.new.inside out.old out.new result }
 {
-    ask(device, alloc, who, Ok(Some(RequestOf::PopErrorScope)), out)
+    ask(device, alloc, Ok(Some(RequestOf::PopErrorScope)), out)
 }
 
 /// Says that the device is lost.
 #[unsafe(no_mangle)]
-pub extern "C" fn wethlorn_lose(
-    alloc: Global,
-    device: &mut Device,
-    who: u32,
-    out: &mut ToldReply,
-) -> u32
-    ensures { Asks (Some request.Lose) who device.old.inside device.new.inside out.old out.new result }
+pub extern "C" fn wethlorn_lose(alloc: Global, device: &mut Device, out: &mut ToldReply) -> u32
+    ensures { Asks (Some request.Lose) device.old.inside device.new.inside out.old out.new result }
 {
-    ask(device, alloc, who, Ok(Some(RequestOf::Lose)), out)
+    ask(device, alloc, Ok(Some(RequestOf::Lose)), out)
 }

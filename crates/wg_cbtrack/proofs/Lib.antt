@@ -23,3 +23,4 @@ pub mod Nearing
 pub mod Placing
 pub mod Reading
 pub mod Single
+pub mod FirstGap

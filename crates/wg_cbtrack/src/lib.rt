@@ -10,6 +10,7 @@ mod cells;
 mod covered;
 mod draft;
 mod found;
+mod gaps;
 mod join;
 mod kept;
 mod near;

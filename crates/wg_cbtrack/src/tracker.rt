@@ -1,21 +1,26 @@
 //! The last uses of parts and the set cells of a trace, and what is planned to be added to it.
-ghost use Rattle.std.specs.Prelude.{◌≡◌, ◌<◌, ◌≤◌, ◌-◌, List, [], ◌∷◌, ◌++◌, IfOk, OnOk};
+ghost use Rattle.std.specs.Prelude.{◌≡◌, ◌<◌, ◌≤◌, ◌-◌, false, List, [], ◌∷◌, ◌++◌, IfOk, OnOk};
 ghost use Rattle.wg_orders.specs.Steps.{Step};
 ghost use Rattle.wg_orders.specs.Trace.{Item, steps_of};
+ghost use Rattle.wg_fading.specs.Fading.{was_let_go};
+ghost use Rattle.wg_rows.specs.Runs.{Byte};
+ghost use Rattle.wg_orders.specs.Trace.{is_unset};
 ghost use Rattle.wg_bars.specs.Kept.{gone_with};
 ghost use Rattle.wg_cbtrack.specs.Adds.{now_of};
+ghost use Rattle.wg_cbtrack.specs.Gaps.{FindsFirst};
 ghost use Rattle.wg_cbtrack.specs.Group.{placed_all};
 ghost use Rattle.wg_cbtrack.specs.Plans.{PlanValue};
 ghost use Rattle.wg_cbtrack.specs.Ready.{IsPlanned, IsReady};
 ghost use Rattle.wg_cbtrack.specs.Stands.{kept_last, kept_cells, Stands};
 
+use crate::gaps::first_gap;
 use crate::plan::Plan;
 use crate::track::CbTrack;
 use std::alloc::Global;
 use std::marker::Model;
 use wg_bars::LastUse;
 use wg_entry::NoMemory;
-use wg_init::CellState;
+use wg_init::{CellRow, CellState};
 use wg_trace::steps::{Item, Step, StepPlace};
 
 /// The last set with which each part was used, and the cells that are set. It stands for a trace
@@ -88,6 +93,18 @@ impl Tracker {
     {
         self.last.let_go(object);
         self.cells.let_go(object);
+    }
+
+    /// The first bytes of a buffer's range, from `lo` up to but not including `hi`, that are unset in the trace, as many
+    /// as stand together; none where all are set. The rows of the buffer were not let go. It takes no memory.
+    pub fn first_unset(&self, buffer: u64, lo: u64, hi: u64) -> Option<(u64, u64)>
+        requires { was_let_go self.now.cells_gone buffer ≡ false }
+        ensures { (steps : List Step) → Stands self.now steps → FindsFirst (λ n. is_unset steps (Byte buffer n)) lo hi result }
+    {
+        match self.cells.set_runs(CellRow::Buffer(buffer)) {
+            Some(runs) => first_gap(runs, lo, hi),
+            None => first_gap(&[], lo, hi),
+        }
     }
 
     /// A plan at a place that adds nothing yet. It takes no memory.

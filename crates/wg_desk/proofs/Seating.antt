@@ -336,3 +336,15 @@ closed_handle seats n = by_seat (slice_get seats n) refl
     by_seat : (found : Option Seat) → slice_get seats n ≡ found → handle_at (option_map_or (λ seat. slice_set seats n (closed seat)) found seats) n ≡ option_and_then (λ (s : Seat). s.handle) found
     by_seat None is = ap (λ (o : Option Seat). option_and_then (λ (s : Seat). s.handle) o) is
     by_seat (Some seat) is = ap (λ (o : Option Seat). option_and_then (λ (s : Seat). s.handle) o) (get_same seats n seat (closed seat) is)
+
+-- The object of a seat with a handle was not dropped.
+pub seat_undropped : (setup : Setup) (history : List Entry) (seats : List Seat) (n : ℕ) → AreSeated setup history seats → is_none (handle_at seats n) ≡ false → is_dropped setup (reverse history) n ≡ false
+seat_undropped setup history seats n seated held = by_seat (slice_get seats n) refl held
+  where
+    by_handle : (handle : Option HandleValue) → IfSome handle (λ _. is_dropped setup (reverse history) n ≡ false) → is_none handle ≡ false → is_dropped setup (reverse history) n ≡ false
+    by_handle None undropped e = absurd (true≢false e)
+    by_handle (Some handle) undropped e = undropped
+
+    by_seat : (found : Option Seat) → slice_get seats n ≡ found → is_none (option_and_then (λ (s : Seat). s.handle) found) ≡ false → is_dropped setup (reverse history) n ≡ false
+    by_seat None at e = absurd (true≢false e)
+    by_seat (Some seat) at e = by_handle seat.handle (seated.each n seat at).undropped e

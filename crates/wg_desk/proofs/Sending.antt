@@ -261,13 +261,17 @@ ending_drops encoder (info.Bundle known) = refl
 pub ending_leaves : (encoder : HandleValue) (seats : List Seat) → left_after (event_asked (ending_asked encoder)) seats ≡ seats
 ending_leaves encoder seats = left_all (event_asked (ending_asked encoder)) seats (ending_drops encoder encoder.info)
 
--- What was let go was dropped, so that none of it is among objects of which none was.
+-- What was let go was dropped.
+pub not_gone : (setup : Setup) (past : Past) (gone : List ℕ) (n : ℕ) → AreDead setup past gone → is_dropped setup past n ≡ false → was_let_go gone n ≡ false
+not_gone setup past gone n dead undropped = here (was_let_go gone n) refl
+  where
+    here : (b : Bool) → was_let_go gone n ≡ b → b ≡ false
+    here true out = absurd (true≢false (sym (dead n out).dropped ∙ undropped))
+    here false out = refl
+
+-- So none of it is among objects of which none was.
 pub none_gone : (setup : Setup) (past : Past) (gone : List ℕ) (objects : List ObjRef) → AreDead setup past gone → any_dropped setup past objects ≡ false → any_gone gone objects ≡ false
 none_gone setup past gone [] dead none = refl
 none_gone setup past gone (object ∷ objects) dead none =
     let parts : (is_dropped setup past object.number ≡ false) × (any_dropped setup past objects ≡ false) = or_parts (is_dropped setup past object.number) (any_dropped setup past objects) none in
-    ap₂ (λ (a b : Bool). a || b) (here (was_let_go gone object.number) refl parts.0) (none_gone setup past gone objects dead parts.1)
-  where
-    here : (b : Bool) → was_let_go gone object.number ≡ b → is_dropped setup past object.number ≡ false → b ≡ false
-    here true out undropped = absurd (true≢false (sym (dead object.number out).dropped ∙ undropped))
-    here false out undropped = refl
+    ap₂ (λ (a b : Bool). a || b) (not_gone setup past gone object.number dead parts.0) (none_gone setup past gone objects dead parts.1)

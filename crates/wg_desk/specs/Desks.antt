@@ -16,6 +16,7 @@ use Rattle.wg_history.specs.Objects.{is_making}
 use Rattle.wg_history.specs.Rules.{is_dropped, is_genuine}
 use Rattle.wg_history.specs.Answers.{Run, reply_to}
 use Rattle.wg_history.specs.Traces.{Trace}
+use Rattle.wg_core.specs.Cores.{FindsUnset}
 use Rattle.wg_calls.specs.Calls.{handle_of}
 use Rattle.wg_desk.specs.declared.desk.DeskError.{DeskError}
 use Rattle.wg_desk.specs.declared.desk.DeskError.TheVariants.{NoMemory, NoObject, NoPass}
@@ -68,3 +69,8 @@ IsDue NoPass missing unbegun = (missing ≡ false) × (unbegun ≡ true)
 -- what an answer made, if it made something, has this number
 abbrev pub IsNumber : Answer → ℕ → Type 0
 IsNumber answer n = (number : ℕ) (valid : Bool) → answer ≡ Made number valid → number ≡ n
+
+-- The first bytes of a buffer's range, from lo up to but not including hi, were found that are unset on a device, as many as stand
+-- together, or there are none.
+abbrev pub FindsUnsetOn : DeskValue → ℕ → ℕ → ℕ → Option (ℕ × ℕ) → Type 0
+FindsUnsetOn desk buffer lo hi found = FindsUnset desk.setup desk.history buffer lo hi found

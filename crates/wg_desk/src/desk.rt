@@ -1,5 +1,6 @@
 //! The desk: its calls.
 ghost use Rattle.std.specs.Prelude.{◌≡◌, ◌++◌, [], ◌||◌, true, false, All, length, reverse, Some, None, IfOk, IfErr, IfSome, OnOk, OnErr, is_some, is_none, option_to_list};
+ghost use Rattle.wg_desk.specs.declared.desk.DeskError.TheVariants.{NoObject};
 ghost use Rattle.wg_types.specs.Requests.{named, map_refs};
 ghost use Rattle.wg_types.specs.Commands.{named as command_named, map_refs as map_command};
 ghost use Rattle.wg_history.specs.declared.events.Event.TheVariants.{Late};
@@ -9,7 +10,7 @@ ghost use Rattle.wg_state.specs.Gone.{named_by};
 ghost use Rattle.wg_calls.specs.Calls.{event_asked, info_asked, finish_event, finished_info, finish_of, known_of_finish};
 ghost use Rattle.wg_desk.specs.Seats.{handle_at, found_at, passes_at, any_missing, is_unbegun, is_late_at, recorded_at, reopened_at, seat_made, AreSeated};
 ghost use Rattle.wg_desk.specs.Sent.{ending_asked, ending_at, event_sent, left_after, seats_ended, seats_left, seats_after};
-ghost use Rattle.wg_desk.specs.Desks.{any_dropped, names_dropped, MakesGenuine, HasSent, HandsOutGrowth, IsUnchanged, IsDue, IsNumber};
+ghost use Rattle.wg_desk.specs.Desks.{any_dropped, names_dropped, MakesGenuine, HasSent, HandsOutGrowth, FindsUnsetOn, IsUnchanged, IsDue, IsNumber};
 
 use crate::asked::{command_over, dropped_number, is_missing_in, is_missing_on, request_over};
 use crate::endings::{ending_asked, recording_in};
@@ -51,14 +52,16 @@ impl From<NoMemory> for DeskError {
 }
 
 /// A device with the handles of its objects by number, and the recorders of its encoders. Numbers count up
-/// from 0, and none is given twice. Contracts see what the device was opened with, its history, which is a
-/// run, and what is kept at each number.
+/// from 0, and none is given twice. What calls give back of recordings and of objects that nobody can reach any
+/// more waits until it is dropped. Contracts see what the device was opened with, its history, which is a run,
+/// and what is kept at each number.
 #[derive(Drop)]
 pub struct Desk {
     core: FadingCore,
     alloc: Global,
     serial: u64,
     seats: Seats,
+    spent: Spent,
 }
 
 impl Model for Desk {
@@ -89,7 +92,17 @@ impl Desk {
             alloc,
             serial,
             seats: Seats::new(alloc),
+            spent: Spent::new(alloc),
         }
+    }
+
+    /// Drops what calls have given back: recordings that no submit is accepted of any more, and what was known of
+    /// objects that nobody can reach any more. That takes as long as these have commands and lists, so that no call
+    /// does it. Where nothing waits it takes no time.
+    pub fn drop_spent(&mut self)
+        ensures { self.new ≡ self.old }
+    {
+        self.spent.clear();
     }
 
     /// What holds of a desk at all times: its history is a run, there is a place for each object that was
@@ -116,7 +129,28 @@ impl Desk {
         self.seats.passes_at(encoder)
     }
 
+    /// The first bytes of a buffer's range, from `lo` up to but not including `hi`, that are unset in the trace, as
+    /// many as stand together; none where all are set. It takes no memory. Of what is no buffer, or past its end, all
+    /// is unset. A number without an object is refused.
+    pub fn first_unset(
+        &self,
+        buffer: u64,
+        lo: u64,
+        hi: u64,
+    ) -> Result<Option<(u64, u64)>, DeskError>
+        ensures unset { IfOk result (λ found. FindsUnsetOn self.now buffer lo hi found) }
+        ensures found { OnOk result (is_none (handle_at self.now.seats buffer) ≡ false) }
+        ensures due { IfErr result (λ error. (error ≡ NoObject) × (is_none (handle_at self.now.seats buffer) ≡ true)) }
+    {
+        if self.seats.handle_at(buffer).is_none() {
+            return Err(DeskError::NoObject);
+        }
+        self.core.dead_holds();
+        Ok(self.core.first_unset(buffer, lo, hi))
+    }
+
     /// Sends an event, and seats what it makes, of which so much is known. The seat of what it drops is emptied.
+    /// What it gives back waits until it is dropped.
     fn send(
         &mut self,
         who: u32,
@@ -144,11 +178,9 @@ impl Desk {
         let Ok(coming) = prepare(self.alloc, reference, info) else {
             return Err(Refused { call: event });
         };
-        let mut spent = Spent::new(self.alloc);
         let dropped = dropped_number(&event);
         self.core.dead_holds();
-        let reply = self.core.step(who, event, items, &mut spent)?;
-        drop(spent);
+        let reply = self.core.step(who, event, items, &mut self.spent)?;
         let made = seat_from(self.serial, coming, reply.answer);
         self.seats.add(made);
         self.seats.empty(dropped);

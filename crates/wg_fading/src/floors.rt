@@ -8,7 +8,7 @@ use std::alloc::Global;
 use wg_entry::NoMemory;
 
 /// So many pages are of a floor.
-pub const PAGES: usize = 64;
+pub const PAGES: usize = 48;
 
 /// Where each of a run of numbers stands, by the page. A page that was given back is none.
 #[derive(Drop)]
@@ -139,7 +139,7 @@ fn fill_in(floor: &mut Floor, alloc: Global, page: usize) -> Result<(), NoMemory
 pub fn lose(floor: &mut Option<Box<Floor>>, slot: usize, next: usize)
     requires { floor_has floor.old slot ≡ true }
     ensures each { (j : ℕ) → floor_place floor.new j ≡ floor_place floor.old j }
-    ensures has { (j : ℕ) → next ≤ j → j < 4096 → floor_has floor.new j ≡ floor_has floor.old j }
+    ensures has { (j : ℕ) → next ≤ j → j < 3072 → floor_has floor.new j ≡ floor_has floor.old j }
 {
     if is_over(floor, slot, next) && next >= PAGES * PAGE {
         *floor = None;

@@ -13,7 +13,7 @@ use std::collections::VecDeque;
 use wg_entry::NoMemory;
 
 /// So many numbers have a floor.
-const FLOOR: u64 = 4096;
+const FLOOR: u64 = 3072;
 
 /// Where each number stands, by the floor. A floor that was given back is none; such floors in front are cut off.
 #[derive(Drop)]
@@ -121,8 +121,8 @@ impl Places {
 
     /// Makes the slots of a page in its floor.
     fn fill_in(&mut self, floor: usize, alloc: Global, page: u64) -> Result<(), NoMemory>
-        requires past { self.old.first ≤ page / 64 }
-        requires is { floor ≡ page / 64 - self.old.first }
+        requires past { self.old.first ≤ page / 48 }
+        requires is { floor ≡ page / 48 - self.old.first }
         requires inside { floor < length self.old.floors.items }
         ensures each { (m : ℕ) → place_at self.new m ≡ place_at self.old m }
         ensures first { self.new.first ≡ self.old.first }

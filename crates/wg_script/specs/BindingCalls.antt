@@ -12,13 +12,14 @@ use Rattle.wg_script.specs.BindingWords.{sampler_words}
 use Rattle.wg_script.specs.BindingEntries.{layout_entry_of, iface_entry_of, group_entry_of}
 use Rattle.wg_script.specs.CallOf.{Call}
 use Rattle.wg_script.specs.Calling.{making}
-use Rattle.wg_script.specs.Readers.{Reader, gives, need, may, ◌▹◌, read_by}
+use Rattle.wg_script.specs.Readers.{Reader, gives, need, may, all_of, ◌▹◌, read_by}
+use Rattle.wg_script.specs.Labels.{made_keys}
 
 -- createSampler
 abbrev pub create_sampler_keys : Reader Call
 create_sampler_keys = gives (λ kind made. making (CreateSampler kind) made)
     ▹ may (codes "kind") (word_or sampler_words Filtering)
-    ▹ need (codes "as") name_at
+    ▹ all_of made_keys
 
 -- the reader of a createSampler
 unfoldable pub create_sampler_of : Data → Result Call ℕ
@@ -28,7 +29,7 @@ create_sampler_of d = read_by create_sampler_keys d
 abbrev pub create_group_layout_keys : Reader Call
 create_group_layout_keys = gives (λ entries made. making (CreateBindGroupLayout entries) made)
     ▹ need (codes "entries") (list_at layout_entry_of)
-    ▹ need (codes "as") name_at
+    ▹ all_of made_keys
 
 -- the reader of a createBindGroupLayout
 unfoldable pub create_group_layout_of : Data → Result Call ℕ
@@ -38,7 +39,7 @@ create_group_layout_of d = read_by create_group_layout_keys d
 abbrev pub create_pipeline_layout_keys : Reader Call
 create_pipeline_layout_keys = gives (λ layouts made. making (CreatePipelineLayout layouts) made)
     ▹ need (codes "layouts") names_at
-    ▹ need (codes "as") name_at
+    ▹ all_of made_keys
 
 -- the reader of a createPipelineLayout
 unfoldable pub create_pipeline_layout_of : Data → Result Call ℕ
@@ -49,7 +50,7 @@ abbrev pub create_group_keys : Reader Call
 create_group_keys = gives (λ layout entries made. making (CreateBindGroup layout entries) made)
     ▹ need (codes "layout") name_at
     ▹ need (codes "entries") (list_at group_entry_of)
-    ▹ need (codes "as") name_at
+    ▹ all_of made_keys
 
 -- the reader of a createBindGroup
 unfoldable pub create_group_of : Data → Result Call ℕ
@@ -71,7 +72,7 @@ abbrev pub create_compute_keys : Reader Call
 create_compute_keys = gives (λ layout entries made. making (CreateComputePipeline layout (record { entries = entries })) made)
     ▹ need (codes "layout") layout_at
     ▹ may (codes "iface") (list_or_empty iface_entry_of)
-    ▹ need (codes "as") name_at
+    ▹ all_of made_keys
 
 -- the reader of a createComputePipeline
 unfoldable pub create_compute_of : Data → Result Call ℕ
@@ -82,7 +83,7 @@ abbrev pub get_group_layout_keys : Reader Call
 get_group_layout_keys = gives (λ pipeline index made. making (GetBindGroupLayout pipeline index) made)
     ▹ need (codes "pipeline") name_at
     ▹ need (codes "index") (whole_at most_short)
-    ▹ need (codes "as") name_at
+    ▹ all_of made_keys
 
 -- the reader of a getBindGroupLayout
 unfoldable pub get_group_layout_of : Data → Result Call ℕ

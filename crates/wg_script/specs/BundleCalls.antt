@@ -10,7 +10,8 @@ use Rattle.wg_script.specs.TextureWords.{format_words}
 use Rattle.wg_script.specs.RenderEntries.{format_item}
 use Rattle.wg_script.specs.CallOf.{Call}
 use Rattle.wg_script.specs.Calling.{recording, making}
-use Rattle.wg_script.specs.Readers.{Reader, gives, need, may, ◌▹◌, read_by}
+use Rattle.wg_script.specs.Readers.{Reader, gives, need, may, all_of, ◌▹◌, read_by}
+use Rattle.wg_script.specs.Labels.{made_keys}
 
 -- createBundleEncoder: a color that is null is left out
 abbrev pub create_bundle_encoder_keys : Reader Call
@@ -27,7 +28,7 @@ create_bundle_encoder_keys =
     ▹ may (codes "samples") (whole_or most_short 1)
     ▹ may (codes "depthReadOnly") (flag_or false)
     ▹ may (codes "stencilReadOnly") (flag_or false)
-    ▹ need (codes "as") name_at
+    ▹ all_of made_keys
 
 -- the reader of a createBundleEncoder
 unfoldable pub create_bundle_encoder_of : Data → Result Call ℕ
@@ -37,7 +38,7 @@ create_bundle_encoder_of d = read_by create_bundle_encoder_keys d
 abbrev pub finish_bundle_keys : Reader Call
 finish_bundle_keys = gives (λ on made. making (FinishBundle on) made)
     ▹ need (codes "on") name_at
-    ▹ need (codes "as") name_at
+    ▹ all_of made_keys
 
 -- the reader of a finishBundle
 unfoldable pub finish_bundle_of : Data → Result Call ℕ

@@ -7,7 +7,8 @@ use Rattle.serde_json.specs.Find.{get, as_str}
 use Rattle.wg_script.specs.Values.{whole_at, whole_or, whole_if, most_whole, most_short, flag_or, name_at}
 use Rattle.wg_script.specs.Lists.{names_at}
 use Rattle.wg_script.specs.Words.{word_at}
-use Rattle.wg_script.specs.Readers.{Reader, gives, need, may, ◌▹◌, read_by}
+use Rattle.wg_script.specs.Readers.{Reader, gives, need, may, all_of, ◌▹◌, read_by}
+use Rattle.wg_script.specs.Labels.{label_if, made_keys}
 use Rattle.wg_script.specs.TextureCalls.{create_texture_of, create_view_of, write_texture_of, copy_buffer_to_texture_of, copy_texture_to_buffer_of, copy_texture_to_texture_of}
 use Rattle.wg_script.specs.BindingCalls.{create_sampler_of, create_group_layout_of, create_pipeline_layout_of, create_group_of, create_compute_of, get_group_layout_of}
 use Rattle.wg_script.specs.PassCalls.{bare_of, begin_compute_pass_of, end_of, set_pipeline_of, set_bind_group_of, dispatch_of, dispatch_indirect_of}
@@ -32,7 +33,7 @@ create_buffer_keys = gives (λ size usage mapped made. making (CreateBuffer (rec
     ▹ need (codes "size") (whole_at most_whole)
     ▹ need (codes "usage") (whole_at most_short)
     ▹ may (codes "mapped") (flag_or false)
-    ▹ need (codes "as") name_at
+    ▹ all_of made_keys
 
 -- the reader of a createBuffer
 unfoldable pub create_buffer_of : Data → Result Call ℕ
@@ -40,13 +41,13 @@ create_buffer_of d = read_by create_buffer_keys d
 
 -- createEncoder
 unfoldable pub create_encoder_of : Data → Result Call ℕ
-create_encoder_of d = read_by (gives (making CreateEncoder) ▹ need (codes "as") name_at) d
+create_encoder_of d = read_by (gives (making CreateEncoder) ▹ all_of made_keys) d
 
 -- finish
 abbrev pub finish_keys : Reader Call
 finish_keys = gives (λ on made. making (Finish on) made)
     ▹ need (codes "on") name_at
-    ▹ need (codes "as") name_at
+    ▹ all_of made_keys
 
 -- the reader of a finish
 unfoldable pub finish_of : Data → Result Call ℕ
@@ -151,9 +152,15 @@ clear_buffer_keys = gives (λ on buffer offset size. recording on (ClearBuffer b
 unfoldable pub clear_buffer_of : Data → Result Call ℕ
 clear_buffer_of d = read_by clear_buffer_keys d
 
--- pushDebugGroup
+-- pushDebugGroup: the label of the group is not looked at further
+abbrev pub push_debug_group_keys : Reader Call
+push_debug_group_keys = gives (λ on label. recording on PushDebugGroup)
+    ▹ need (codes "on") name_at
+    ▹ may (codes "label") label_if
+
+-- the reader of a pushDebugGroup
 unfoldable pub push_debug_group_of : Data → Result Call ℕ
-push_debug_group_of d = bare_of PushDebugGroup d
+push_debug_group_of d = read_by push_debug_group_keys d
 
 -- popDebugGroup
 unfoldable pub pop_debug_group_of : Data → Result Call ℕ

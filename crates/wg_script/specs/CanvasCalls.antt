@@ -9,7 +9,8 @@ use Rattle.wg_script.specs.Values.{whole_at, whole_or, most_short, name_at}
 use Rattle.wg_script.specs.Words.{word_at}
 use Rattle.wg_script.specs.CallOf.{Call}
 use Rattle.wg_script.specs.Calling.{canvas_asking, canvas_making}
-use Rattle.wg_script.specs.Readers.{Reader, gives, need, may, ◌▹◌, read_by}
+use Rattle.wg_script.specs.Readers.{Reader, gives, need, may, all_of, ◌▹◌, read_by}
+use Rattle.wg_script.specs.Labels.{made_keys}
 
 -- createCanvas
 abbrev pub create_canvas_keys : Reader Call
@@ -41,7 +42,7 @@ configure_canvas_of d = read_by configure_canvas_keys d
 abbrev pub current_texture_keys : Reader Call
 current_texture_keys = gives (λ canvas made. canvas_making (On canvas Current) made)
     ▹ need (codes "canvas") name_at
-    ▹ need (codes "as") name_at
+    ▹ all_of made_keys
 
 -- the reader of a currentTexture
 unfoldable pub current_texture_of : Data → Result Call ℕ

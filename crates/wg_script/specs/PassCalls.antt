@@ -9,13 +9,14 @@ use Rattle.wg_script.specs.Values.{whole, whole_at, whole_or, most_whole, most_s
 use Rattle.wg_script.specs.Lists.{list_or_empty}
 use Rattle.wg_script.specs.CallOf.{Call}
 use Rattle.wg_script.specs.Calling.{recording, beginning}
-use Rattle.wg_script.specs.Readers.{Reader, gives, need, may, ◌▹◌, read_by}
+use Rattle.wg_script.specs.Readers.{Reader, gives, need, may, all_of, ◌▹◌, read_by}
+use Rattle.wg_script.specs.Labels.{made_keys}
 
 -- beginComputePass: the name that it makes is that of the pass
 abbrev pub begin_compute_pass_keys : Reader Call
 begin_compute_pass_keys = gives (λ on made. beginning on BeginComputePass made)
     ▹ need (codes "on") name_at
-    ▹ need (codes "as") name_at
+    ▹ all_of made_keys
 
 -- the reader of a beginComputePass
 unfoldable pub begin_compute_pass_of : Data → Result Call ℕ

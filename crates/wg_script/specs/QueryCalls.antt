@@ -6,14 +6,15 @@ use Rattle.wg_types.specs.declared.requests.RequestOf.TheVariants.{CreateQuerySe
 use Rattle.wg_script.specs.Values.{whole_at, most_whole, most_short, name_at}
 use Rattle.wg_script.specs.CallOf.{Call}
 use Rattle.wg_script.specs.Calling.{recording, making}
-use Rattle.wg_script.specs.Readers.{Reader, gives, need, ◌▹◌, read_by}
+use Rattle.wg_script.specs.Readers.{Reader, gives, need, all_of, ◌▹◌, read_by}
+use Rattle.wg_script.specs.Labels.{made_keys}
 use Rattle.wg_script.specs.PassCalls.{bare_of}
 
 -- createQuerySet
 abbrev pub create_queries_keys : Reader Call
 create_queries_keys = gives (λ count made. making (CreateQuerySet (record { count = count })) made)
     ▹ need (codes "count") (whole_at most_short)
-    ▹ need (codes "as") name_at
+    ▹ all_of made_keys
 
 -- the reader of a createQuerySet
 unfoldable pub create_queries_of : Data → Result Call ℕ

@@ -15,7 +15,8 @@ use Rattle.wg_script.specs.PassCalls.{indirect_of}
 use Rattle.wg_script.specs.RenderEntries.{vertex_buffer_of, format_item, depth_state_of, color_target_of, depth_target_of}
 use Rattle.wg_script.specs.CallOf.{Call}
 use Rattle.wg_script.specs.Calling.{recording, beginning, making}
-use Rattle.wg_script.specs.Readers.{Reader, gives, need, may, ◌▹◌, read_by}
+use Rattle.wg_script.specs.Readers.{Reader, gives, need, may, all_of, ◌▹◌, read_by}
+use Rattle.wg_script.specs.Labels.{made_keys}
 
 -- ---- render pipelines
 
@@ -28,7 +29,7 @@ create_render_keys = gives (λ layout iface buffers targets depth samples made. 
     ▹ may (codes "targets") (list_or_empty (null_or format_item))
     ▹ may (codes "depth") (item_if depth_state_of)
     ▹ may (codes "samples") (whole_or most_short 1)
-    ▹ need (codes "as") name_at
+    ▹ all_of made_keys
 
 -- the reader of a createRenderPipeline
 unfoldable pub create_render_of : Data → Result Call ℕ
@@ -43,7 +44,7 @@ begin_render_pass_keys = gives (λ on colors depth queries made. beginning on (B
     ▹ need (codes "colors") (list_at (null_or color_target_of))
     ▹ may (codes "depth") (item_if depth_target_of)
     ▹ may (codes "queries") (item_if name_item)
-    ▹ need (codes "as") name_at
+    ▹ all_of made_keys
 
 -- the reader of a beginRenderPass
 unfoldable pub begin_render_pass_of : Data → Result Call ℕ
@@ -92,14 +93,15 @@ draw_keys = gives (λ on vertices instances first_vertex first_instance. recordi
 unfoldable pub draw_of : Data → Result Call ℕ
 draw_of d = read_by draw_keys d
 
--- drawIndexed
+-- drawIndexed: the number that is added to each index, modulo 2^32, is not looked at further
 abbrev pub draw_indexed_keys : Reader Call
-draw_indexed_keys = gives (λ on indices instances first_index first_instance. recording on (DrawIndexed indices instances first_index first_instance))
+draw_indexed_keys = gives (λ on indices instances first_index first_instance base_vertex. recording on (DrawIndexed indices instances first_index first_instance))
     ▹ need (codes "on") name_at
     ▹ need (codes "indices") (whole_at most_short)
     ▹ may (codes "instances") (whole_or most_short 1)
     ▹ may (codes "firstIndex") (whole_or most_short 0)
     ▹ may (codes "firstInstance") (whole_or most_short 0)
+    ▹ may (codes "baseVertex") (whole_or most_short 0)
 
 -- the reader of a drawIndexed
 unfoldable pub draw_indexed_of : Data → Result Call ℕ

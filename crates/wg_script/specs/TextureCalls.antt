@@ -18,6 +18,7 @@ use Rattle.wg_types.specs.declared.requests.RequestOf.TheVariants.{CreateTexture
 use Rattle.wg_types.specs.declared.textures.ViewAsked.{ViewAsked}
 use Rattle.wg_script.specs.Calling.{recording, asking, making}
 use Rattle.wg_script.specs.Readers.{Reader, gives, need, may, all_of, ◌▹◌, read_by}
+use Rattle.wg_script.specs.Labels.{made_keys}
 
 -- ---- textures and views
 
@@ -35,7 +36,7 @@ texture_info_keys = gives (λ size usage format dim mips samples. record { size 
 abbrev pub create_texture_keys : Reader Call
 create_texture_keys = gives (λ info made. making (CreateTexture info) made)
     ▹ all_of texture_info_keys
-    ▹ need (codes "as") name_at
+    ▹ all_of made_keys
 
 -- the reader of a createTexture
 unfoldable pub create_texture_of : Data → Result Call ℕ
@@ -57,7 +58,7 @@ abbrev pub create_view_keys : Reader Call
 create_view_keys = gives (λ texture asked made. making (CreateView texture asked) made)
     ▹ need (codes "texture") name_at
     ▹ all_of view_asked_keys
-    ▹ need (codes "as") name_at
+    ▹ all_of made_keys
 
 -- the reader of a createView
 unfoldable pub create_view_of : Data → Result Call ℕ

@@ -8,6 +8,7 @@ ghost use Rattle.wg_script.specs.BindingCalls.{create_sampler_of, create_group_l
 use crate::binding_words::SAMPLERS;
 use crate::calling::making;
 use crate::calls::Call;
+use crate::labels::made_in;
 use crate::lists::{list_at, list_or_empty};
 use crate::name::Name;
 use crate::values::{Refusal, check_keys, name_at, reading, short_at};
@@ -26,7 +27,7 @@ pub fn create_sampler(alloc: Global, call: &Value<'_>) -> Result<Call, Refusal>
 {
     reading!(call:
         may kind = word_or("kind", &SAMPLERS, SamplerKind::Filtering);
-        need made = name_at(alloc, "as");
+        make made = made_in(alloc);
         => making(RequestOf::CreateSampler { kind }, made))
 }
 
@@ -37,7 +38,7 @@ pub fn create_bind_group_layout(alloc: Global, call: &Value<'_>) -> Result<Call,
 {
     reading!(call:
         need entries = list_at(alloc, "entries");
-        need made = name_at(alloc, "as");
+        make made = made_in(alloc);
         => making(RequestOf::CreateBindGroupLayout { entries: Shared::new(alloc, entries)? }, made))
 }
 
@@ -48,7 +49,7 @@ pub fn create_pipeline_layout(alloc: Global, call: &Value<'_>) -> Result<Call, R
 {
     reading!(call:
         need layouts = list_at(alloc, "layouts");
-        need made = name_at(alloc, "as");
+        make made = made_in(alloc);
         => making(RequestOf::CreatePipelineLayout { layouts }, made))
 }
 
@@ -60,7 +61,7 @@ pub fn create_bind_group(alloc: Global, call: &Value<'_>) -> Result<Call, Refusa
     reading!(call:
         need layout = name_at(alloc, "layout");
         need entries = list_at(alloc, "entries");
-        need made = name_at(alloc, "as");
+        make made = made_in(alloc);
         => making(RequestOf::CreateBindGroup { layout, entries }, made))
 }
 
@@ -84,7 +85,7 @@ pub fn create_compute_pipeline(alloc: Global, call: &Value<'_>) -> Result<Call, 
     reading!(call:
         need layout = layout_at(alloc, "layout");
         may entries = list_or_empty(alloc, "iface");
-        need made = name_at(alloc, "as");
+        make made = made_in(alloc);
         => making(RequestOf::CreateComputePipeline { layout, iface: Shared::new(alloc, Interface { entries })? }, made))
 }
 
@@ -96,6 +97,6 @@ pub fn get_bind_group_layout(alloc: Global, call: &Value<'_>) -> Result<Call, Re
     reading!(call:
         need pipeline = name_at(alloc, "pipeline");
         need index = short_at("index");
-        need made = name_at(alloc, "as");
+        make made = made_in(alloc);
         => making(RequestOf::GetBindGroupLayout { pipeline, index }, made))
 }

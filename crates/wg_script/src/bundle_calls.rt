@@ -5,6 +5,7 @@ ghost use Rattle.wg_script.specs.BundleCalls.{create_bundle_encoder_of, finish_b
 
 use crate::calling::{making, recording};
 use crate::calls::Call;
+use crate::labels::made_in;
 use crate::lists::list_at;
 use crate::texture_words::FORMATS;
 use crate::values::{Refusal, check_keys, flag_or, name_at, reading, short_or};
@@ -27,7 +28,7 @@ pub fn create_bundle_encoder(alloc: Global, call: &Value<'_>) -> Result<Call, Re
         may samples = short_or("samples", 1);
         may depth_read_only = flag_or("depthReadOnly", false);
         may stencil_read_only = flag_or("stencilReadOnly", false);
-        need made = name_at(alloc, "as");
+        make made = made_in(alloc);
         => making(RequestOf::CreateBundleEncoder {
             targets: Shared::new(alloc, TargetInfo {
                 colors,
@@ -46,7 +47,7 @@ pub fn finish_bundle(alloc: Global, call: &Value<'_>) -> Result<Call, Refusal>
 {
     reading!(call:
         need on = name_at(alloc, "on");
-        need made = name_at(alloc, "as");
+        make made = made_in(alloc);
         => making(RequestOf::FinishBundle { encoder: on }, made))
 }
 

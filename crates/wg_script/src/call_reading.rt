@@ -15,6 +15,7 @@ use crate::bundle_calls::{create_bundle_encoder, execute_bundles, finish_bundle}
 use crate::calling::{asking, making, recording};
 use crate::calls::Call;
 use crate::canvas_calls::{configure_canvas, create_canvas, current_texture, present};
+use crate::labels::{label_if, made_in};
 use crate::lists::list_at;
 use crate::name::Name;
 use crate::pass_calls::{
@@ -59,7 +60,7 @@ fn create_buffer(alloc: Global, call: &Value<'_>) -> Result<Call, Refusal>
         need size = whole_at("size", MOST_WHOLE);
         need usage = short_at("usage");
         may mapped = flag_or("mapped", false);
-        need made = name_at(alloc, "as");
+        make made = made_in(alloc);
         => making(RequestOf::CreateBuffer { info: BufferInfo { size, usage, mapped } }, made))
 }
 
@@ -68,7 +69,7 @@ fn create_encoder(alloc: Global, call: &Value<'_>) -> Result<Call, Refusal>
     ensures { Gives result (create_encoder_of (view call.now)) }
 {
     reading!(call:
-        need made = name_at(alloc, "as");
+        make made = made_in(alloc);
         => making(RequestOf::CreateEncoder, made))
 }
 
@@ -78,7 +79,7 @@ fn finish(alloc: Global, call: &Value<'_>) -> Result<Call, Refusal>
 {
     reading!(call:
         need on = name_at(alloc, "on");
-        need made = name_at(alloc, "as");
+        make made = made_in(alloc);
         => making(RequestOf::Finish { encoder: on }, made))
 }
 
@@ -217,7 +218,10 @@ fn clear_buffer(alloc: Global, call: &Value<'_>) -> Result<Call, Refusal>
 fn push_debug_group(alloc: Global, call: &Value<'_>) -> Result<Call, Refusal>
     ensures { Gives result (push_debug_group_of (view call.now)) }
 {
-    bare(alloc, call, CommandOf::PushDebugGroup)
+    reading!(call:
+        need on = name_at(alloc, "on");
+        may _label = label_if("label");
+        => recording(on, CommandOf::PushDebugGroup))
 }
 
 #[tactic(auto, unfolding(crate::specs::Calls::pop_debug_group_of))]

@@ -5,6 +5,7 @@ ghost use Rattle.wg_script.specs.CanvasCalls.{create_canvas_of, configure_canvas
 
 use crate::calling::{canvas_asking, canvas_making};
 use crate::calls::Call;
+use crate::labels::made_in;
 use crate::values::{Refusal, check_keys, name_at, reading, short_at, short_or};
 use crate::words::word_at;
 use std::alloc::Global;
@@ -52,7 +53,7 @@ pub fn current_texture(alloc: Global, call: &Value<'_>) -> Result<Call, Refusal>
 {
     reading!(call:
         need canvas = name_at(alloc, "canvas");
-        need made = name_at(alloc, "as");
+        make made = made_in(alloc);
         => canvas_making(CanvasOf::On { canvas, call: CanvasCall::Current }, made))
 }
 

@@ -10,6 +10,7 @@ mod calling;
 mod calls;
 mod canvas_calls;
 mod draft;
+mod labels;
 mod limits;
 mod lists;
 mod name;

@@ -5,6 +5,7 @@ ghost use Rattle.wg_script.specs.PassCalls.{begin_compute_pass_of, bare_of, end_
 
 use crate::calling::{beginning, recording};
 use crate::calls::Call;
+use crate::labels::made_in;
 use crate::lists::list_or_empty;
 use crate::name::Name;
 use crate::values::{
@@ -22,7 +23,7 @@ pub fn begin_compute_pass(alloc: Global, call: &Value<'_>) -> Result<Call, Refus
 {
     reading!(call:
         need on = name_at(alloc, "on");
-        need made = name_at(alloc, "as");
+        make made = made_in(alloc);
         => beginning(on, CommandOf::BeginComputePass, made))
 }
 

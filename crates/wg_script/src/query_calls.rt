@@ -5,6 +5,7 @@ ghost use Rattle.wg_script.specs.QueryCalls.{create_queries_of, resolve_queries_
 
 use crate::calling::{making, recording};
 use crate::calls::Call;
+use crate::labels::made_in;
 use crate::pass_calls::bare;
 use crate::values::{MOST_WHOLE, Refusal, check_keys, name_at, reading, short_at, whole_at};
 use std::alloc::Global;
@@ -20,7 +21,7 @@ pub fn create_query_set(alloc: Global, call: &Value<'_>) -> Result<Call, Refusal
 {
     reading!(call:
         need count = short_at("count");
-        need made = name_at(alloc, "as");
+        make made = made_in(alloc);
         => making(RequestOf::CreateQuerySet { info: QueriesInfo { count } }, made))
 }
 

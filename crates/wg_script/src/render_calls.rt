@@ -7,6 +7,7 @@ use crate::binding_calls::layout_at;
 use crate::binding_entries::staged_or_empty;
 use crate::calling::{beginning, making, recording};
 use crate::calls::Call;
+use crate::labels::made_in;
 use crate::lists::{item_if, list_at, list_or_empty};
 use crate::pass_calls::{IndirectCall, indirect};
 use crate::render_words::INDEX_FORMATS;
@@ -33,7 +34,7 @@ pub fn create_render_pipeline(alloc: Global, call: &Value<'_>) -> Result<Call, R
         may targets = list_or_empty(alloc, "targets");
         may depth = item_if(alloc, "depth");
         may samples = short_or("samples", 1);
-        need made = name_at(alloc, "as");
+        make made = made_in(alloc);
         => making(RequestOf::CreateRenderPipeline {
             layout,
             desc: Shared::new(alloc, RenderDesc { iface, buffers, targets, depth, samples })?,
@@ -50,7 +51,7 @@ pub fn begin_render_pass(alloc: Global, call: &Value<'_>) -> Result<Call, Refusa
         need colors = list_at(alloc, "colors");
         may depth = item_if(alloc, "depth");
         may queries = item_if(alloc, "queries");
-        need made = name_at(alloc, "as");
+        make made = made_in(alloc);
         => beginning(on, CommandOf::BeginRenderPass { begin: RenderBeginOf { colors, depth, queries } }, made))
 }
 
@@ -107,6 +108,7 @@ pub fn draw_indexed(alloc: Global, call: &Value<'_>) -> Result<Call, Refusal>
         may instances = short_or("instances", 1);
         may first_index = short_or("firstIndex", 0);
         may first_instance = short_or("firstInstance", 0);
+        may _base_vertex = short_or("baseVertex", 0);
         => recording(on, CommandOf::DrawIndexed { indices, instances, first_index, first_instance }))
 }
 

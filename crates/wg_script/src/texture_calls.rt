@@ -6,6 +6,7 @@ ghost use Rattle.wg_script.specs.TextureCalls.{view_asked_keys, layout_keys, spo
 
 use crate::calling::{asking, making, recording};
 use crate::calls::Call;
+use crate::labels::made_in;
 use crate::lists::{triple_at, triple_or_zero};
 use crate::name::Name;
 use crate::texture_words::{ASPECTS, FORMATS, TEXTURE_DIMS, VIEW_DIMS};
@@ -32,7 +33,7 @@ pub fn create_texture(alloc: Global, call: &Value<'_>) -> Result<Call, Refusal>
         may dim = word_or("dim", &TEXTURE_DIMS, TextureDim::Two);
         may mips = short_or("mips", 1);
         may samples = short_or("samples", 1);
-        need made = name_at(alloc, "as");
+        make made = made_in(alloc);
         => making(RequestOf::CreateTexture { info: TextureInfo { size, usage, format, dim, mips, samples } }, made))
 }
 
@@ -58,7 +59,7 @@ pub fn create_view(alloc: Global, call: &Value<'_>) -> Result<Call, Refusal>
     reading!(call:
         need texture = name_at(alloc, "texture");
         part asked = view_asked_in("dim", "aspect", "baseMip", "mips", "baseLayer", "layers");
-        need made = name_at(alloc, "as");
+        make made = made_in(alloc);
         => making(RequestOf::CreateView { texture, asked }, made))
 }
 

@@ -486,14 +486,16 @@ impl State {
     }
 
     /// Takes one object of those that were noted as maybe dead, and lets it go if it is. It gives the number
-    /// of what it let go. What was known of that is dropped.
-    pub fn let_one_go(&mut self) -> Option<u64>
+    /// of what it let go. What was known of that is handed out.
+    pub fn let_one_go(&mut self, spent: &mut Spent) -> Option<u64>
         ensures setup { self.new.setup ≡ self.old.setup }
         ensures history { self.new.history ≡ self.old.history }
         ensures live { self.new.live ≡ self.old.live }
         ensures gone { self.new.gone ≡ self.old.gone ++ option_to_list result }
         ensures here { IfSome result (λ number. was_let_go self.old.gone number ≡ false) }
         ensures dead { IfSome result (λ number. IsDead self.old.setup (reverse self.old.history) number) }
+        ensures handed { spent.new.handed ≡ spent.old.handed }
+        ensures room { spent.new.room ≡ spent.old.room }
     {
         let Some(number) = self.kept.life.next_hint() else {
             return None;
@@ -502,7 +504,8 @@ impl State {
             return None;
         }
         self.kept.life.let_go(number);
-        let _ = self.book.let_go(number);
+        let made = self.book.let_go(number);
+        spent.add_known(made);
         Some(number)
     }
 }

@@ -1,5 +1,5 @@
 -- Items that are told one after another, over the beginnings of lists.
-use Rattle.std.proofs.Common.{◌≡◌, ℕ, ◌+◌, ◌-◌, ◌≤◌, ◌<◌, List, [], ◌∷◌, ◌++◌, Bool, true, false, ◌&&◌, nat_le, map, length, take, drop, set, get_or, refl, sym, ap, ◌∙◌, arith, append_assoc, append-nil, length-append, length-drop, if◌then◌else◌}
+use Rattle.std.proofs.Common.{◌≡◌, ℕ, zero, suc, ◌+◌, ◌-◌, ◌≤◌, ◌<◌, List, [], ◌∷◌, ◌++◌, Bool, true, false, ◌&&◌, nat_le, map, length, take, drop, set, get_or, refl, sym, ap, ◌∙◌, arith, append_assoc, append-nil, length-append, length-drop, if◌then◌else◌}
 use borrow.Rule.Slice.PartMut.{put_mid}
 use lib.Seq.{take_all}
 use Rattle.std.specs.List.{flat_map}
@@ -12,8 +12,8 @@ use Rattle.wg_trace.specs.declared.steps.Item.{Item}
 use Rattle.wg_trace.specs.declared.steps.Item.TheVariants.{Bar, Step as StepItem, Free}
 use Rattle.wg_told.specs.declared.drains.Room.{Room}
 use Rattle.wg_told.specs.Items.{item_told, use_told, access_told, uses_of, accesses_of}
-use Rattle.wg_told.specs.Drains.{items_told, uses_told, accesses_told, fits, room_behind, fitting, over}
-use Rattle.wg_told.specs.Laws.{ListsToldApart}
+use Rattle.wg_told.specs.Drains.{items_told, uses_told, accesses_told, fits, room_behind, fitting, AreInRoom, over}
+use Rattle.wg_told.specs.Laws.{FitsAsMany, ListsToldApart}
 use Rattle.wg_told.proofs.Telling.{items_told_apart}
 
 -- the next element is put over
@@ -183,6 +183,65 @@ fitting_accesses room (x ∷ xs) =
     let whole : length (map access_told (accesses_of x) ++ accesses_told left) ≤ room.accesses
     = omega (arith, own, rest, length-map (accesses_of x) access_told, length-append (map access_told (accesses_of x)) (accesses_told left)) in
     whole)
+
+-- What fits is the beginning of the list.
+first_fit : (b : Bool) (x : Item) (rest xs : List Item) → rest ≡ take (length rest) xs
+    → (if b then x ∷ rest else []) ≡ take (length (if b then x ∷ rest else [])) (x ∷ xs)
+first_fit true x rest xs same = ap (λ zs. x ∷ zs) same
+first_fit false x rest xs same = refl
+
+fitting_first : (room : Room) (items : List Item) → fitting room items ≡ take (length (fitting room items)) items
+fitting_first room [] = refl
+fitting_first room (x ∷ xs) = first_fit (fits room x) x (fitting (room_behind room x) xs) xs (fitting_first (room_behind room x) xs)
+
+-- Where there is room for a list, there is for its first item, and for the others in what is left behind it.
+behind_first : (room : Room) (x : Item) (xs : List Item) → AreInRoom room (x ∷ xs) → AreInRoom (room_behind room x) xs
+behind_first room x xs are =
+    let many = are.items_fit in
+    let long_uses : length (map use_told (uses_of x) ++ uses_told xs) ≤ room.uses = are.uses_fit in
+    let long_accesses : length (map access_told (accesses_of x) ++ accesses_told xs) ≤ room.accesses = are.accesses_fit in
+    record {
+      items_fit = omega (arith, many);
+      uses_fit = omega (arith, long_uses, length-map (uses_of x) use_told, length-append (map use_told (uses_of x)) (uses_told xs));
+      accesses_fit = omega (arith, long_accesses, length-map (accesses_of x) access_told, length-append (map access_told (accesses_of x)) (accesses_told xs));
+    }
+
+first_fits : (room : Room) (x : Item) (xs : List Item) → AreInRoom room (x ∷ xs) → fits room x ≡ true
+first_fits room x xs are =
+    let many = are.items_fit in
+    let long_uses : length (map use_told (uses_of x) ++ uses_told xs) ≤ room.uses = are.uses_fit in
+    let long_accesses : length (map access_told (accesses_of x) ++ accesses_told xs) ≤ room.accesses = are.accesses_fit in
+    let one : 1 ≤ room.items = omega (arith, many) in
+    let own_uses : length (uses_of x) ≤ room.uses
+    = omega (arith, long_uses, length-map (uses_of x) use_told, length-append (map use_told (uses_of x)) (uses_told xs)) in
+    let own_accesses : length (accesses_of x) ≤ room.accesses
+    = omega (arith, long_accesses, length-map (accesses_of x) access_told, length-append (map access_told (accesses_of x)) (accesses_told xs)) in
+    both_fit room x one own_uses ∙ le-leb (length (accesses_of x)) room.accesses own_accesses
+
+-- There is room for no longer beginning of the list.
+no_more_fit : (b : Bool) (n : ℕ) (room : Room) (x : Item) (rest xs : List Item) → fits room x ≡ b
+    → length (if b then x ∷ rest else []) < n → n ≤ length (x ∷ xs) → AreInRoom room (take n (x ∷ xs))
+    → ((m : ℕ) → length rest < m → m ≤ length xs → AreInRoom (room_behind room x) (take m xs) → ⊥) → ⊥
+no_more_fit true zero room x rest xs is more within are behind = omega (arith, more)
+no_more_fit false zero room x rest xs is more within are behind = omega (arith, more)
+no_more_fit true (suc m) room x rest xs is more within are behind =
+    behind m (omega (arith, more)) (omega (arith, within)) (behind_first room x (take m xs) are)
+no_more_fit false (suc m) room x rest xs is more within are behind =
+    let no : true ≡ false = sym (first_fits room x (take m xs) are) ∙ is in cc
+
+fitting_longest : (room : Room) (items : List Item) (n : ℕ)
+    → length (fitting room items) < n → n ≤ length items → AreInRoom room (take n items) → ⊥
+fitting_longest room [] n more within are = omega (arith, more, within)
+fitting_longest room (x ∷ xs) n more within are =
+    let rest = fitting (room_behind room x) xs in
+    no_more_fit (fits room x) n room x rest xs refl more within are (λ m. fitting_longest (room_behind room x) xs m)
+
+pub as_many_fit : FitsAsMany
+as_many_fit room items = (
+  fitting_first room items,
+  record { items_fit = fitting_items room items; uses_fit = fitting_uses room items; accesses_fit = fitting_accesses room items },
+  fitting_longest room items,
+)
 
 -- the walk over the items, one step on
 pub fitting_step : (whole items : List Item) (i : ℕ) (x : Item) (room : Room)

@@ -1,5 +1,5 @@
 -- What is told of many items at once: as many as there is room for, with their uses and accesses.
-use Rattle.std.specs.Prelude.{◌-◌, ◌&&◌, nat_le, Bool, List, [], ◌∷◌, ◌++◌, length, map, drop, if◌then◌else◌}
+use Rattle.std.specs.Prelude.{◌-◌, ◌≤◌, ◌&&◌, nat_le, Bool, List, [], ◌∷◌, ◌++◌, length, map, drop, if◌then◌else◌}
 use Rattle.std.specs.List.{flat_map}
 use Rattle.wg_trace.specs.declared.steps.Item.{Item}
 use Rattle.wg_told.specs.declared.drains.Room.{Room}
@@ -41,6 +41,12 @@ room_behind room item = record {
 abbrev pub fitting : Room → List Item → List Item
 fitting room [] = []
 fitting room (item ∷ items) = if fits room item then item ∷ fitting (room_behind room item) items else []
+
+-- items for which there is room, with all their uses and accesses
+pub record AreInRoom (room : Room) (items : List Item) : Type 0 where
+  pub items_fit : length items ≤ room.items
+  pub uses_fit : length (uses_told items) ≤ room.uses
+  pub accesses_fit : length (accesses_told items) ≤ room.accesses
 
 -- a list over the beginning of another one
 abbrev pub over : {T : Type 0} → List T → List T → List T

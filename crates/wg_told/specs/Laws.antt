@@ -1,11 +1,12 @@
--- Nothing is lost in what is told: what is told alike is the same.
-use Rattle.std.specs.Prelude.{◌≡◌, ℕ, List, map}
+-- Nothing is lost in what is told: what is told alike is the same. And of many items as many are told as there is room for.
+use Rattle.std.specs.Prelude.{◌≡◌, ◌<◌, ◌≤◌, ℕ, List, map, length, take}
 use Rattle.wg_trace.specs.declared.replies.Reply.{Reply}
 use Rattle.wg_trace.specs.declared.replies.Settlement.{Settlement}
 use Rattle.wg_trace.specs.declared.steps.Item.{Item}
+use Rattle.wg_told.specs.declared.drains.Room.{Room}
 use Rattle.wg_told.specs.Replies.{reply_told, settlement_told}
 use Rattle.wg_told.specs.Items.{item_told, use_told, access_told, uses_of, accesses_of}
-use Rattle.wg_told.specs.Drains.{items_told, uses_told, accesses_told}
+use Rattle.wg_told.specs.Drains.{items_told, uses_told, accesses_told, fitting, AreInRoom}
 
 -- two items that are told alike, with their uses and accesses
 abbrev pub ItemsToldApart : Type 0
@@ -27,3 +28,9 @@ abbrev pub RepliesToldApart : Type 0
 RepliesToldApart =
     (a b : Reply) (m n p q : ℕ) → reply_told a m p ≡ reply_told b n q
     → map settlement_told a.settled ≡ map settlement_told b.settled → (a ≡ b) × (m ≡ n) × (p ≡ q)
+
+-- What is told at once of a list of items is its beginning. There is room for that, and for no longer beginning of the list.
+abbrev pub FitsAsMany : Type 0
+FitsAsMany =
+    (room : Room) (items : List Item) → (fitting room items ≡ take (length (fitting room items)) items) × AreInRoom room (fitting room items)
+    × ((n : ℕ) → length (fitting room items) < n → n ≤ length items → AreInRoom room (take n items) → ⊥)

@@ -1,5 +1,5 @@
 //! The laws of what is told, as the contracts of functions that do nothing.
-ghost use Rattle.wg_told.specs.Laws.{ItemsToldApart, ListsToldApart, RepliesToldApart, SettlementsToldApart};
+ghost use Rattle.wg_told.specs.Laws.{FitsAsMany, ItemsToldApart, ListsToldApart, RepliesToldApart, SettlementsToldApart};
 
 /// Two items that are told alike, with their uses and accesses, are the same.
 pub fn items_told_apart()
@@ -19,4 +19,10 @@ pub fn settlements_told_apart()
 /// Two replies that are told alike, with what they settle, are the same, of the same entry and the same pass.
 pub fn replies_told_apart()
     ensures { RepliesToldApart }
+{}
+
+/// What is told of many items at once is as many of the first as there is room for, with their uses and accesses: for
+/// one more there is none.
+pub fn as_many_fit()
+    ensures { FitsAsMany }
 {}

@@ -2,8 +2,6 @@
 
 use wethlorn::*;
 
-const ME: u32 = 0;
-
 /// Prints what a call answered, and what a driver has to do for it.
 fn told(device: &mut Device, call: &str, reply: Reply) -> Reply {
     if reply.answer != Answer::Kept {
@@ -36,7 +34,7 @@ fn texture(device: &mut Device, usage: TextureUsage) -> Result<u64, Error> {
         mips: 1,
         samples: 1,
     };
-    let reply = device.create_texture(ME, &desc)?;
+    let reply = device.create_texture(&desc)?;
     Ok(number(told(device, "createTexture", reply)))
 }
 
@@ -47,7 +45,7 @@ fn view(device: &mut Device, texture: u64) -> Result<u64, Error> {
         aspect: ASPECT_ALL,
         ..ViewDesc::default()
     };
-    let reply = device.create_view(ME, texture, &desc)?;
+    let reply = device.create_view(texture, &desc)?;
     Ok(number(told(device, "createView", reply)))
 }
 
@@ -70,16 +68,16 @@ fn pipeline(device: &mut Device, sampled: u64) -> Result<(u64, u64), Error> {
         samples: 1,
         ..RenderDesc::default()
     };
-    let reply = device.create_render_pipeline(ME, &desc, &iface, &[], &[], &[RGBA8_UNORM])?;
+    let reply = device.create_render_pipeline(&desc, &iface, &[], &[], &[RGBA8_UNORM])?;
     let pipeline = number(told(device, "createRenderPipeline", reply));
-    let reply = device.get_bind_group_layout(ME, pipeline, 0)?;
+    let reply = device.get_bind_group_layout(pipeline, 0)?;
     let layout = number(told(device, "getBindGroupLayout", reply));
     let entry = GroupEntry {
         object: sampled,
         bound: BOUND_VIEW,
         ..GroupEntry::default()
     };
-    let reply = device.create_bind_group(ME, layout, &[entry])?;
+    let reply = device.create_bind_group(layout, &[entry])?;
     Ok((pipeline, number(told(device, "createBindGroup", reply))))
 }
 
@@ -102,14 +100,14 @@ fn write(device: &mut Device, texture: u64) -> Result<(), Error> {
         },
         data_size: 64,
     };
-    let reply = device.write_texture(ME, &write)?;
+    let reply = device.write_texture(&write)?;
     told(device, "writeTexture", reply);
     Ok(())
 }
 
 /// Records the pass and the copy, and submits them. Gives the number of the operation.
 fn draw(device: &mut Device, target: u64, color: u64, drawn: (u64, u64), read: u64) -> Result<u64, Error> {
-    let reply = device.create_encoder(ME)?;
+    let reply = device.create_encoder()?;
     let encoder = number(told(device, "createEncoder", reply));
     let color = Color {
         view: color,
@@ -122,11 +120,11 @@ fn draw(device: &mut Device, target: u64, color: u64, drawn: (u64, u64), read: u
         view: NONE,
         ..Depth::default()
     };
-    let (pass, _) = device.begin_render_pass(ME, encoder, &[color], &depth, NONE)?;
-    device.set_pipeline(ME, encoder, pass, drawn.0)?;
-    device.set_bind_group(ME, encoder, pass, 0, drawn.1, &[])?;
-    device.draw(ME, encoder, pass, 3, 1, 0, 0)?;
-    device.end(ME, encoder, pass)?;
+    let (pass, _) = device.begin_render_pass(encoder, &[color], &depth, NONE)?;
+    device.set_pipeline(encoder, pass, drawn.0)?;
+    device.set_bind_group(encoder, pass, 0, drawn.1, &[])?;
+    device.draw(encoder, pass, 3, 1, 0, 0)?;
+    device.end(encoder, pass)?;
     let copy = TexelCopy {
         buffer: read,
         layout: TexelLayout {
@@ -145,10 +143,10 @@ fn draw(device: &mut Device, target: u64, color: u64, drawn: (u64, u64), read: u
             depth: 1,
         },
     };
-    device.copy_texture_to_buffer(ME, encoder, &copy)?;
-    let reply = device.finish(ME, encoder)?;
+    device.copy_texture_to_buffer(encoder, &copy)?;
+    let reply = device.finish(encoder)?;
     let commands = number(told(device, "finish", reply));
-    let reply = device.submit(ME, &[commands])?;
+    let reply = device.submit(&[commands])?;
     match told(device, "submit", reply).answer {
         Answer::Queued(operation) => Ok(operation),
         other => panic!("the submit was answered {other:?}"),
@@ -156,26 +154,23 @@ fn draw(device: &mut Device, target: u64, color: u64, drawn: (u64, u64), read: u
 }
 
 fn main() -> Result<(), Error> {
-    let mut device = Device::open(1_000_000, &[])?;
+    let mut device = Device::open(1_000_000, &[], &[])?;
     let source = texture(&mut device, TextureUsage::TEXTURE_BINDING | TextureUsage::COPY_DST)?;
     let target = texture(&mut device, TextureUsage::RENDER_ATTACHMENT | TextureUsage::COPY_SRC)?;
     let sampled = view(&mut device, source)?;
     let color = view(&mut device, target)?;
-    let reply = device.create_buffer(
-        ME,
-        &BufferDesc {
-            size: 1024,
-            usage: BufferUsage::MAP_READ | BufferUsage::COPY_DST,
-            mapped: 0,
-        },
-    )?;
+    let reply = device.create_buffer(&BufferDesc {
+        size: 1024,
+        usage: BufferUsage::MAP_READ | BufferUsage::COPY_DST,
+        mapped: 0,
+    })?;
     let read = number(told(&mut device, "createBuffer", reply));
     let drawn = pipeline(&mut device, sampled)?;
     write(&mut device, source)?;
     let operation = draw(&mut device, target, color, drawn, read)?;
-    let reply = device.map_async(ME, read, MapMode::READ, 0, NONE)?;
+    let reply = device.map_async(read, MapMode::READ, 0, NONE)?;
     told(&mut device, "mapAsync", reply);
-    let reply = device.complete(ME, operation)?;
+    let reply = device.complete(operation)?;
     told(&mut device, "complete", reply);
     Ok(())
 }

@@ -3,13 +3,14 @@
 use crate::raw;
 use crate::told::{self, Error, Item, Left, Reply, Settlement};
 use crate::values::*;
+use std::ops::Range;
 use std::ptr;
 use std::sync::atomic::{AtomicU64, Ordering};
 
 /// The serial of the next device: no two of a process have the same.
 static SERIALS: AtomicU64 = AtomicU64::new(1);
 
-/// A device. Each call takes a number `who`, which the caller gives itself: it stands in the history alone.
+/// A device.
 pub struct Device {
     raw: raw::Device,
 }
@@ -96,15 +97,49 @@ fn begun(call: impl FnOnce(&mut raw::Reply) -> u32) -> Result<(u32, Reply), Erro
 }
 
 impl Device {
-    /// Opens a device whose resources may have `budget` bytes, with the default limits, or of those that are asked for the better of
-    /// default and value.
-    pub fn open(budget: u64, limits: &[Limit]) -> Result<Device, Error> {
+    /// Opens a device whose resources may have `budget` bytes, over an adapter that supports `best` ([`DEFAULT_MAX_BUFFER_SIZE`] and the
+    /// like at least, [`BEST_MAX_BUFFER_SIZE`] and the like where it does not say), with the default limits, or of those that are asked
+    /// for the better of default and value.
+    pub fn open(budget: u64, best: &[Limit], limits: &[Limit]) -> Result<Device, Error> {
         let mut device = Device {
             raw: raw::Device { inside: ptr::null_mut() },
         };
+        let mut bad = raw::BadLimit::default();
         let serial = SERIALS.fetch_add(1, Ordering::Relaxed);
-        match unsafe { raw::wethlorn_open(budget, serial, limits.as_ptr(), limits.len(), &mut device.raw) } {
+        let opened = unsafe {
+            raw::wethlorn_open(
+                budget,
+                serial,
+                best.as_ptr(),
+                best.len(),
+                limits.as_ptr(),
+                limits.len(),
+                &mut device.raw,
+                &mut bad,
+            )
+        };
+        match opened {
             told::OK => Ok(device),
+            told::BAD_VALUE => Err(told::bad_limit(&bad)),
+            status => Err(told::error(status)),
+        }
+    }
+
+    /// A limit that the device has, by its name, as [`MAX_BUFFER_SIZE`].
+    pub fn limit(&mut self, name: u32) -> Result<u64, Error> {
+        let mut value = 0;
+        match unsafe { raw::wethlorn_get_limit(&mut self.raw, name, &mut value) } {
+            told::OK => Ok(value),
+            status => Err(told::error(status)),
+        }
+    }
+
+    /// The first bytes of a buffer's range that are unset, as many as stand together, or none. What a page maps for writing is zero there.
+    pub fn unset_range(&mut self, buffer: u64, range: Range<u64>) -> Result<Option<Range<u64>>, Error> {
+        let mut out = raw::Bytes::default();
+        match unsafe { raw::wethlorn_unset_range(&mut self.raw, buffer, range.start, range.end, &mut out) } {
+            told::OK => Ok(Some(out.from..out.to)),
+            told::END => Ok(None),
             status => Err(told::error(status)),
         }
     }
@@ -161,49 +196,48 @@ impl Device {
     }
 
     /// Makes a buffer (createBuffer).
-    pub fn create_buffer(&mut self, who: u32, desc: &BufferDesc) -> Result<Reply, Error> {
-        told(|out| unsafe { raw::wethlorn_create_buffer(&mut self.raw, who, desc, out) })
+    pub fn create_buffer(&mut self, desc: &BufferDesc) -> Result<Reply, Error> {
+        told(|out| unsafe { raw::wethlorn_create_buffer(&mut self.raw, desc, out) })
     }
 
     /// Makes a texture (createTexture).
-    pub fn create_texture(&mut self, who: u32, desc: &TextureDesc) -> Result<Reply, Error> {
-        told(|out| unsafe { raw::wethlorn_create_texture(&mut self.raw, who, desc, out) })
+    pub fn create_texture(&mut self, desc: &TextureDesc) -> Result<Reply, Error> {
+        told(|out| unsafe { raw::wethlorn_create_texture(&mut self.raw, desc, out) })
     }
 
     /// Makes a view of a texture (createView).
-    pub fn create_view(&mut self, who: u32, texture: u64, desc: &ViewDesc) -> Result<Reply, Error> {
-        told(|out| unsafe { raw::wethlorn_create_view(&mut self.raw, who, texture, desc, out) })
+    pub fn create_view(&mut self, texture: u64, desc: &ViewDesc) -> Result<Reply, Error> {
+        told(|out| unsafe { raw::wethlorn_create_view(&mut self.raw, texture, desc, out) })
     }
 
     /// Makes a sampler (createSampler).
-    pub fn create_sampler(&mut self, who: u32, kind: u32) -> Result<Reply, Error> {
-        told(|out| unsafe { raw::wethlorn_create_sampler(&mut self.raw, who, kind, out) })
+    pub fn create_sampler(&mut self, kind: u32) -> Result<Reply, Error> {
+        told(|out| unsafe { raw::wethlorn_create_sampler(&mut self.raw, kind, out) })
     }
 
     /// Makes a bind group layout (createBindGroupLayout).
-    pub fn create_bind_group_layout(&mut self, who: u32, entries: &[LayoutEntry]) -> Result<Reply, Error> {
-        told(|out| unsafe { raw::wethlorn_create_bind_group_layout(&mut self.raw, who, entries.as_ptr(), entries.len(), out) })
+    pub fn create_bind_group_layout(&mut self, entries: &[LayoutEntry]) -> Result<Reply, Error> {
+        told(|out| unsafe { raw::wethlorn_create_bind_group_layout(&mut self.raw, entries.as_ptr(), entries.len(), out) })
     }
 
     /// Makes a pipeline layout of bind group layouts (createPipelineLayout).
-    pub fn create_pipeline_layout(&mut self, who: u32, layouts: &[u64]) -> Result<Reply, Error> {
-        told(|out| unsafe { raw::wethlorn_create_pipeline_layout(&mut self.raw, who, layouts.as_ptr(), layouts.len(), out) })
+    pub fn create_pipeline_layout(&mut self, layouts: &[u64]) -> Result<Reply, Error> {
+        told(|out| unsafe { raw::wethlorn_create_pipeline_layout(&mut self.raw, layouts.as_ptr(), layouts.len(), out) })
     }
 
     /// Makes a bind group (createBindGroup).
-    pub fn create_bind_group(&mut self, who: u32, layout: u64, entries: &[GroupEntry]) -> Result<Reply, Error> {
-        told(|out| unsafe { raw::wethlorn_create_bind_group(&mut self.raw, who, layout, entries.as_ptr(), entries.len(), out) })
+    pub fn create_bind_group(&mut self, layout: u64, entries: &[GroupEntry]) -> Result<Reply, Error> {
+        told(|out| unsafe { raw::wethlorn_create_bind_group(&mut self.raw, layout, entries.as_ptr(), entries.len(), out) })
     }
 
     /// Makes a compute pipeline (createComputePipeline) whose shader uses these bindings. `layout` may be NONE: the pipeline derives its layout itself.
-    pub fn create_compute_pipeline(&mut self, who: u32, layout: u64, iface: &[IfaceEntry]) -> Result<Reply, Error> {
-        told(|out| unsafe { raw::wethlorn_create_compute_pipeline(&mut self.raw, who, layout, iface.as_ptr(), iface.len(), out) })
+    pub fn create_compute_pipeline(&mut self, layout: u64, iface: &[IfaceEntry]) -> Result<Reply, Error> {
+        told(|out| unsafe { raw::wethlorn_create_compute_pipeline(&mut self.raw, layout, iface.as_ptr(), iface.len(), out) })
     }
 
     /// Makes a render pipeline (createRenderPipeline). `buffers` stand by slot, and each of `attributes` has the index of its buffer: BAD_VALUE where there is none. `targets` are formats, of which each may be 0.
     pub fn create_render_pipeline(
         &mut self,
-        who: u32,
         desc: &RenderDesc,
         iface: &[IfaceEntry],
         buffers: &[VertexBuffer],
@@ -213,7 +247,6 @@ impl Device {
         told(|out| unsafe {
             raw::wethlorn_create_render_pipeline(
                 &mut self.raw,
-                who,
                 desc,
                 iface.as_ptr(),
                 iface.len(),
@@ -229,162 +262,151 @@ impl Device {
     }
 
     /// Makes the bind group layout that a pipeline of either kind has for a group (getBindGroupLayout).
-    pub fn get_bind_group_layout(&mut self, who: u32, pipeline: u64, index: u32) -> Result<Reply, Error> {
-        told(|out| unsafe { raw::wethlorn_get_bind_group_layout(&mut self.raw, who, pipeline, index, out) })
+    pub fn get_bind_group_layout(&mut self, pipeline: u64, index: u32) -> Result<Reply, Error> {
+        told(|out| unsafe { raw::wethlorn_get_bind_group_layout(&mut self.raw, pipeline, index, out) })
     }
 
     /// Makes a set of occlusion queries (createQuerySet).
-    pub fn create_query_set(&mut self, who: u32, count: u32) -> Result<Reply, Error> {
-        told(|out| unsafe { raw::wethlorn_create_query_set(&mut self.raw, who, count, out) })
+    pub fn create_query_set(&mut self, count: u32) -> Result<Reply, Error> {
+        told(|out| unsafe { raw::wethlorn_create_query_set(&mut self.raw, count, out) })
     }
 
     /// Makes an encoder (createCommandEncoder).
-    pub fn create_encoder(&mut self, who: u32) -> Result<Reply, Error> {
-        told(|out| unsafe { raw::wethlorn_create_encoder(&mut self.raw, who, out) })
+    pub fn create_encoder(&mut self) -> Result<Reply, Error> {
+        told(|out| unsafe { raw::wethlorn_create_encoder(&mut self.raw, out) })
     }
 
     /// Makes a bundle encoder (createRenderBundleEncoder). `colors` are formats, of which each may be 0.
-    pub fn create_bundle_encoder(&mut self, who: u32, desc: &BundleDesc, colors: &[u32]) -> Result<Reply, Error> {
-        told(|out| unsafe { raw::wethlorn_create_bundle_encoder(&mut self.raw, who, desc, colors.as_ptr(), colors.len(), out) })
+    pub fn create_bundle_encoder(&mut self, desc: &BundleDesc, colors: &[u32]) -> Result<Reply, Error> {
+        told(|out| unsafe { raw::wethlorn_create_bundle_encoder(&mut self.raw, desc, colors.as_ptr(), colors.len(), out) })
     }
 
     /// Ends an encoder, and makes a command buffer of what was recorded on it (finish); or ends a bundle encoder, and makes a bundle.
-    pub fn finish(&mut self, who: u32, encoder: u64) -> Result<Reply, Error> {
-        told(|out| unsafe { raw::wethlorn_finish(&mut self.raw, who, encoder, out) })
+    pub fn finish(&mut self, encoder: u64) -> Result<Reply, Error> {
+        told(|out| unsafe { raw::wethlorn_finish(&mut self.raw, encoder, out) })
     }
 
     /// Queues command buffers as one operation (submit).
-    pub fn submit(&mut self, who: u32, buffers: &[u64]) -> Result<Reply, Error> {
-        told(|out| unsafe { raw::wethlorn_submit(&mut self.raw, who, buffers.as_ptr(), buffers.len(), out) })
+    pub fn submit(&mut self, buffers: &[u64]) -> Result<Reply, Error> {
+        told(|out| unsafe { raw::wethlorn_submit(&mut self.raw, buffers.as_ptr(), buffers.len(), out) })
     }
 
     /// Queues a write of `size` bytes of a buffer (writeBuffer). The data is no matter of this call.
-    pub fn write_buffer(&mut self, who: u32, buffer: u64, offset: u64, size: u64) -> Result<Reply, Error> {
-        told(|out| unsafe { raw::wethlorn_write_buffer(&mut self.raw, who, buffer, offset, size, out) })
+    pub fn write_buffer(&mut self, buffer: u64, offset: u64, size: u64) -> Result<Reply, Error> {
+        told(|out| unsafe { raw::wethlorn_write_buffer(&mut self.raw, buffer, offset, size, out) })
     }
 
     /// Queues a write of texels (writeTexture).
-    pub fn write_texture(&mut self, who: u32, write: &TextureWrite) -> Result<Reply, Error> {
-        told(|out| unsafe { raw::wethlorn_write_texture(&mut self.raw, who, write, out) })
+    pub fn write_texture(&mut self, write: &TextureWrite) -> Result<Reply, Error> {
+        told(|out| unsafe { raw::wethlorn_write_texture(&mut self.raw, write, out) })
     }
 
     /// Asks for a mapping of a range of a buffer (mapAsync), which makes a promise. Each `mode` but READ and WRITE is answered by a fault. `size` may be NONE.
-    pub fn map_async(&mut self, who: u32, buffer: u64, mode: MapMode, offset: u64, size: u64) -> Result<Reply, Error> {
-        told(|out| unsafe { raw::wethlorn_map_async(&mut self.raw, who, buffer, mode, offset, size, out) })
+    pub fn map_async(&mut self, buffer: u64, mode: MapMode, offset: u64, size: u64) -> Result<Reply, Error> {
+        told(|out| unsafe { raw::wethlorn_map_async(&mut self.raw, buffer, mode, offset, size, out) })
     }
 
     /// Ends the mapping of a buffer, or gives up the one that was asked for (unmap).
-    pub fn unmap(&mut self, who: u32, buffer: u64) -> Result<Reply, Error> {
-        told(|out| unsafe { raw::wethlorn_unmap(&mut self.raw, who, buffer, out) })
+    pub fn unmap(&mut self, buffer: u64) -> Result<Reply, Error> {
+        told(|out| unsafe { raw::wethlorn_unmap(&mut self.raw, buffer, out) })
     }
 
     /// Destroys a buffer, a texture or a query set (destroy).
-    pub fn destroy(&mut self, who: u32, object: u64) -> Result<Reply, Error> {
-        told(|out| unsafe { raw::wethlorn_destroy(&mut self.raw, who, object, out) })
+    pub fn destroy(&mut self, object: u64) -> Result<Reply, Error> {
+        told(|out| unsafe { raw::wethlorn_destroy(&mut self.raw, object, out) })
     }
 
     /// Says that the caller lets go of an object, of any kind, as by garbage collection. Its number names nothing from then on.
-    pub fn drop_object(&mut self, who: u32, object: u64) -> Result<Reply, Error> {
-        told(|out| unsafe { raw::wethlorn_drop(&mut self.raw, who, object, out) })
+    pub fn drop_object(&mut self, object: u64) -> Result<Reply, Error> {
+        told(|out| unsafe { raw::wethlorn_drop(&mut self.raw, object, out) })
     }
 
     /// Says that the operations up to `op` are complete on the GPU, which is taken as true.
-    pub fn complete(&mut self, who: u32, op: u64) -> Result<Reply, Error> {
-        told(|out| unsafe { raw::wethlorn_complete(&mut self.raw, who, op, out) })
+    pub fn complete(&mut self, op: u64) -> Result<Reply, Error> {
+        told(|out| unsafe { raw::wethlorn_complete(&mut self.raw, op, out) })
     }
 
     /// Makes a promise that is settled once all operations that were queued before are complete (onSubmittedWorkDone).
-    pub fn work_done(&mut self, who: u32) -> Result<Reply, Error> {
-        told(|out| unsafe { raw::wethlorn_work_done(&mut self.raw, who, out) })
+    pub fn work_done(&mut self) -> Result<Reply, Error> {
+        told(|out| unsafe { raw::wethlorn_work_done(&mut self.raw, out) })
     }
 
     /// Opens an error scope (pushErrorScope).
-    pub fn push_error_scope(&mut self, who: u32, filter: u32) -> Result<Reply, Error> {
-        told(|out| unsafe { raw::wethlorn_push_error_scope(&mut self.raw, who, filter, out) })
+    pub fn push_error_scope(&mut self, filter: u32) -> Result<Reply, Error> {
+        told(|out| unsafe { raw::wethlorn_push_error_scope(&mut self.raw, filter, out) })
     }
 
     /// Closes the error scope that was opened last, and makes a promise that tells what it received first (popErrorScope).
-    pub fn pop_error_scope(&mut self, who: u32) -> Result<Reply, Error> {
-        told(|out| unsafe { raw::wethlorn_pop_error_scope(&mut self.raw, who, out) })
+    pub fn pop_error_scope(&mut self) -> Result<Reply, Error> {
+        told(|out| unsafe { raw::wethlorn_pop_error_scope(&mut self.raw, out) })
     }
 
     /// The device is lost from here on (destroy of a device, or a loss).
-    pub fn lose(&mut self, who: u32) -> Result<Reply, Error> {
-        told(|out| unsafe { raw::wethlorn_lose(&mut self.raw, who, out) })
+    pub fn lose(&mut self) -> Result<Reply, Error> {
+        told(|out| unsafe { raw::wethlorn_lose(&mut self.raw, out) })
     }
 
     /// Begins a compute pass (beginComputePass); `out->pass` is its number.
-    pub fn begin_compute_pass(&mut self, who: u32, encoder: u64) -> Result<(u32, Reply), Error> {
-        begun(|out| unsafe { raw::wethlorn_begin_compute_pass(&mut self.raw, who, encoder, out) })
+    pub fn begin_compute_pass(&mut self, encoder: u64) -> Result<(u32, Reply), Error> {
+        begun(|out| unsafe { raw::wethlorn_begin_compute_pass(&mut self.raw, encoder, out) })
     }
 
     /// Begins a render pass (beginRenderPass); `out->pass` is its number. `colors` stand by slot. `queries` is the query set of its occlusion queries, or NONE.
     pub fn begin_render_pass(
         &mut self,
-        who: u32,
         encoder: u64,
         colors: &[Color],
         depth: &Depth,
         queries: u64,
     ) -> Result<(u32, Reply), Error> {
         begun(|out| unsafe {
-            raw::wethlorn_begin_render_pass(
-                &mut self.raw,
-                who,
-                encoder,
-                colors.as_ptr(),
-                colors.len(),
-                depth,
-                queries,
-                out,
-            )
+            raw::wethlorn_begin_render_pass(&mut self.raw, encoder, colors.as_ptr(), colors.len(), depth, queries, out)
         })
     }
 
     /// Ends a pass (end).
-    pub fn end(&mut self, who: u32, encoder: u64, pass: u32) -> Result<Reply, Error> {
-        told(|out| unsafe { raw::wethlorn_end(&mut self.raw, who, encoder, pass, out) })
+    pub fn end(&mut self, encoder: u64, pass: u32) -> Result<Reply, Error> {
+        told(|out| unsafe { raw::wethlorn_end(&mut self.raw, encoder, pass, out) })
     }
 
     /// Opens a debug group of an encoder, a pass or a bundle encoder (pushDebugGroup).
-    pub fn push_debug_group(&mut self, who: u32, encoder: u64, pass: u32) -> Result<Reply, Error> {
-        told(|out| unsafe { raw::wethlorn_push_debug_group(&mut self.raw, who, encoder, pass, out) })
+    pub fn push_debug_group(&mut self, encoder: u64, pass: u32) -> Result<Reply, Error> {
+        told(|out| unsafe { raw::wethlorn_push_debug_group(&mut self.raw, encoder, pass, out) })
     }
 
     /// Closes the debug group that was opened last (popDebugGroup).
-    pub fn pop_debug_group(&mut self, who: u32, encoder: u64, pass: u32) -> Result<Reply, Error> {
-        told(|out| unsafe { raw::wethlorn_pop_debug_group(&mut self.raw, who, encoder, pass, out) })
+    pub fn pop_debug_group(&mut self, encoder: u64, pass: u32) -> Result<Reply, Error> {
+        told(|out| unsafe { raw::wethlorn_pop_debug_group(&mut self.raw, encoder, pass, out) })
     }
 
     /// Records a copy of bytes (copyBufferToBuffer).
-    pub fn copy_buffer_to_buffer(&mut self, who: u32, encoder: u64, copy: &BufferCopy) -> Result<Reply, Error> {
-        told(|out| unsafe { raw::wethlorn_copy_buffer_to_buffer(&mut self.raw, who, encoder, copy, out) })
+    pub fn copy_buffer_to_buffer(&mut self, encoder: u64, copy: &BufferCopy) -> Result<Reply, Error> {
+        told(|out| unsafe { raw::wethlorn_copy_buffer_to_buffer(&mut self.raw, encoder, copy, out) })
     }
 
     /// Records a copy from a buffer to a texture (copyBufferToTexture).
-    pub fn copy_buffer_to_texture(&mut self, who: u32, encoder: u64, copy: &TexelCopy) -> Result<Reply, Error> {
-        told(|out| unsafe { raw::wethlorn_copy_buffer_to_texture(&mut self.raw, who, encoder, copy, out) })
+    pub fn copy_buffer_to_texture(&mut self, encoder: u64, copy: &TexelCopy) -> Result<Reply, Error> {
+        told(|out| unsafe { raw::wethlorn_copy_buffer_to_texture(&mut self.raw, encoder, copy, out) })
     }
 
     /// Records a copy from a texture to a buffer (copyTextureToBuffer).
-    pub fn copy_texture_to_buffer(&mut self, who: u32, encoder: u64, copy: &TexelCopy) -> Result<Reply, Error> {
-        told(|out| unsafe { raw::wethlorn_copy_texture_to_buffer(&mut self.raw, who, encoder, copy, out) })
+    pub fn copy_texture_to_buffer(&mut self, encoder: u64, copy: &TexelCopy) -> Result<Reply, Error> {
+        told(|out| unsafe { raw::wethlorn_copy_texture_to_buffer(&mut self.raw, encoder, copy, out) })
     }
 
     /// Records a copy between textures (copyTextureToTexture).
-    pub fn copy_texture_to_texture(&mut self, who: u32, encoder: u64, copy: &TextureCopy) -> Result<Reply, Error> {
-        told(|out| unsafe { raw::wethlorn_copy_texture_to_texture(&mut self.raw, who, encoder, copy, out) })
+    pub fn copy_texture_to_texture(&mut self, encoder: u64, copy: &TextureCopy) -> Result<Reply, Error> {
+        told(|out| unsafe { raw::wethlorn_copy_texture_to_texture(&mut self.raw, encoder, copy, out) })
     }
 
     /// Records that bytes of a buffer are set to zero (clearBuffer). `size` may be NONE.
-    pub fn clear_buffer(&mut self, who: u32, encoder: u64, buffer: u64, offset: u64, size: u64) -> Result<Reply, Error> {
-        told(|out| unsafe { raw::wethlorn_clear_buffer(&mut self.raw, who, encoder, buffer, offset, size, out) })
+    pub fn clear_buffer(&mut self, encoder: u64, buffer: u64, offset: u64, size: u64) -> Result<Reply, Error> {
+        told(|out| unsafe { raw::wethlorn_clear_buffer(&mut self.raw, encoder, buffer, offset, size, out) })
     }
 
     /// Records that results of queries are written to a buffer (resolveQuerySet).
     pub fn resolve_query_set(
         &mut self,
-        who: u32,
         encoder: u64,
         queries: u64,
         first: u32,
@@ -392,30 +414,19 @@ impl Device {
         buffer: u64,
         offset: u64,
     ) -> Result<Reply, Error> {
-        told(|out| unsafe {
-            raw::wethlorn_resolve_query_set(&mut self.raw, who, encoder, queries, first, count, buffer, offset, out)
-        })
+        told(|out| unsafe { raw::wethlorn_resolve_query_set(&mut self.raw, encoder, queries, first, count, buffer, offset, out) })
     }
 
     /// Sets the pipeline of a pass or a bundle (setPipeline).
-    pub fn set_pipeline(&mut self, who: u32, encoder: u64, pass: u32, pipeline: u64) -> Result<Reply, Error> {
-        told(|out| unsafe { raw::wethlorn_set_pipeline(&mut self.raw, who, encoder, pass, pipeline, out) })
+    pub fn set_pipeline(&mut self, encoder: u64, pass: u32, pipeline: u64) -> Result<Reply, Error> {
+        told(|out| unsafe { raw::wethlorn_set_pipeline(&mut self.raw, encoder, pass, pipeline, out) })
     }
 
     /// Sets a bind group of a pass or a bundle (setBindGroup), with an offset for each of its dynamic buffers.
-    pub fn set_bind_group(
-        &mut self,
-        who: u32,
-        encoder: u64,
-        pass: u32,
-        index: u32,
-        group: u64,
-        offsets: &[u32],
-    ) -> Result<Reply, Error> {
+    pub fn set_bind_group(&mut self, encoder: u64, pass: u32, index: u32, group: u64, offsets: &[u32]) -> Result<Reply, Error> {
         told(|out| unsafe {
             raw::wethlorn_set_bind_group(
                 &mut self.raw,
-                who,
                 encoder,
                 pass,
                 index,
@@ -428,19 +439,18 @@ impl Device {
     }
 
     /// Records a dispatch (dispatchWorkgroups).
-    pub fn dispatch(&mut self, who: u32, encoder: u64, pass: u32, x: u32, y: u32, z: u32) -> Result<Reply, Error> {
-        told(|out| unsafe { raw::wethlorn_dispatch(&mut self.raw, who, encoder, pass, x, y, z, out) })
+    pub fn dispatch(&mut self, encoder: u64, pass: u32, x: u32, y: u32, z: u32) -> Result<Reply, Error> {
+        told(|out| unsafe { raw::wethlorn_dispatch(&mut self.raw, encoder, pass, x, y, z, out) })
     }
 
     /// Records a dispatch whose counts stand in a buffer (dispatchWorkgroupsIndirect).
-    pub fn dispatch_indirect(&mut self, who: u32, encoder: u64, pass: u32, buffer: u64, offset: u64) -> Result<Reply, Error> {
-        told(|out| unsafe { raw::wethlorn_dispatch_indirect(&mut self.raw, who, encoder, pass, buffer, offset, out) })
+    pub fn dispatch_indirect(&mut self, encoder: u64, pass: u32, buffer: u64, offset: u64) -> Result<Reply, Error> {
+        told(|out| unsafe { raw::wethlorn_dispatch_indirect(&mut self.raw, encoder, pass, buffer, offset, out) })
     }
 
     /// Sets a vertex buffer (setVertexBuffer). `size` may be NONE.
     pub fn set_vertex_buffer(
         &mut self,
-        who: u32,
         encoder: u64,
         pass: u32,
         slot: u32,
@@ -448,13 +458,12 @@ impl Device {
         offset: u64,
         size: u64,
     ) -> Result<Reply, Error> {
-        told(|out| unsafe { raw::wethlorn_set_vertex_buffer(&mut self.raw, who, encoder, pass, slot, buffer, offset, size, out) })
+        told(|out| unsafe { raw::wethlorn_set_vertex_buffer(&mut self.raw, encoder, pass, slot, buffer, offset, size, out) })
     }
 
     /// Sets the index buffer (setIndexBuffer). `size` may be NONE.
     pub fn set_index_buffer(
         &mut self,
-        who: u32,
         encoder: u64,
         pass: u32,
         buffer: u64,
@@ -462,15 +471,12 @@ impl Device {
         offset: u64,
         size: u64,
     ) -> Result<Reply, Error> {
-        told(|out| unsafe {
-            raw::wethlorn_set_index_buffer(&mut self.raw, who, encoder, pass, buffer, format, offset, size, out)
-        })
+        told(|out| unsafe { raw::wethlorn_set_index_buffer(&mut self.raw, encoder, pass, buffer, format, offset, size, out) })
     }
 
     /// Records a draw (draw).
     pub fn draw(
         &mut self,
-        who: u32,
         encoder: u64,
         pass: u32,
         vertices: u32,
@@ -481,7 +487,6 @@ impl Device {
         told(|out| unsafe {
             raw::wethlorn_draw(
                 &mut self.raw,
-                who,
                 encoder,
                 pass,
                 vertices,
@@ -496,7 +501,6 @@ impl Device {
     /// Records a draw by the index buffer (drawIndexed).
     pub fn draw_indexed(
         &mut self,
-        who: u32,
         encoder: u64,
         pass: u32,
         indices: u32,
@@ -507,7 +511,6 @@ impl Device {
         told(|out| unsafe {
             raw::wethlorn_draw_indexed(
                 &mut self.raw,
-                who,
                 encoder,
                 pass,
                 indices,
@@ -520,30 +523,28 @@ impl Device {
     }
 
     /// Records a draw whose numbers stand in a buffer (drawIndirect).
-    pub fn draw_indirect(&mut self, who: u32, encoder: u64, pass: u32, buffer: u64, offset: u64) -> Result<Reply, Error> {
-        told(|out| unsafe { raw::wethlorn_draw_indirect(&mut self.raw, who, encoder, pass, buffer, offset, out) })
+    pub fn draw_indirect(&mut self, encoder: u64, pass: u32, buffer: u64, offset: u64) -> Result<Reply, Error> {
+        told(|out| unsafe { raw::wethlorn_draw_indirect(&mut self.raw, encoder, pass, buffer, offset, out) })
     }
 
     /// Records an indexed draw whose numbers stand in a buffer (drawIndexedIndirect).
-    pub fn draw_indexed_indirect(&mut self, who: u32, encoder: u64, pass: u32, buffer: u64, offset: u64) -> Result<Reply, Error> {
-        told(|out| unsafe { raw::wethlorn_draw_indexed_indirect(&mut self.raw, who, encoder, pass, buffer, offset, out) })
+    pub fn draw_indexed_indirect(&mut self, encoder: u64, pass: u32, buffer: u64, offset: u64) -> Result<Reply, Error> {
+        told(|out| unsafe { raw::wethlorn_draw_indexed_indirect(&mut self.raw, encoder, pass, buffer, offset, out) })
     }
 
     /// Begins an occlusion query (beginOcclusionQuery).
-    pub fn begin_occlusion_query(&mut self, who: u32, encoder: u64, pass: u32, index: u32) -> Result<Reply, Error> {
-        told(|out| unsafe { raw::wethlorn_begin_occlusion_query(&mut self.raw, who, encoder, pass, index, out) })
+    pub fn begin_occlusion_query(&mut self, encoder: u64, pass: u32, index: u32) -> Result<Reply, Error> {
+        told(|out| unsafe { raw::wethlorn_begin_occlusion_query(&mut self.raw, encoder, pass, index, out) })
     }
 
     /// Ends the occlusion query that was begun last (endOcclusionQuery).
-    pub fn end_occlusion_query(&mut self, who: u32, encoder: u64, pass: u32) -> Result<Reply, Error> {
-        told(|out| unsafe { raw::wethlorn_end_occlusion_query(&mut self.raw, who, encoder, pass, out) })
+    pub fn end_occlusion_query(&mut self, encoder: u64, pass: u32) -> Result<Reply, Error> {
+        told(|out| unsafe { raw::wethlorn_end_occlusion_query(&mut self.raw, encoder, pass, out) })
     }
 
     /// Executes bundles in a render pass, one after another (executeBundles).
-    pub fn execute_bundles(&mut self, who: u32, encoder: u64, pass: u32, bundles: &[u64]) -> Result<Reply, Error> {
-        told(|out| unsafe {
-            raw::wethlorn_execute_bundles(&mut self.raw, who, encoder, pass, bundles.as_ptr(), bundles.len(), out)
-        })
+    pub fn execute_bundles(&mut self, encoder: u64, pass: u32, bundles: &[u64]) -> Result<Reply, Error> {
+        told(|out| unsafe { raw::wethlorn_execute_bundles(&mut self.raw, encoder, pass, bundles.as_ptr(), bundles.len(), out) })
     }
 }
 

@@ -10,8 +10,8 @@
 //! use wethlorn::{Answer, BufferDesc, BufferUsage, Device};
 //!
 //! # fn main() -> Result<(), wethlorn::Error> {
-//! let mut device = Device::open(1024, &[])?;
-//! let buffer = device.create_buffer(0, &BufferDesc { size: 16, usage: BufferUsage::COPY_DST, mapped: 0 })?;
+//! let mut device = Device::open(1024, &[], &[])?;
+//! let buffer = device.create_buffer(&BufferDesc { size: 16, usage: BufferUsage::COPY_DST, mapped: 0 })?;
 //! assert_eq!(buffer.answer, Answer::Made { number: 0, is_valid: true });
 //! # Ok(())
 //! # }
@@ -28,10 +28,12 @@
 mod defaults;
 mod device;
 mod raw;
+mod rules;
 mod told;
 mod values;
 
 pub use device::{version, Device};
+pub use rules::{rule_section, rule_text};
 pub use told::{
     Access, Answer, Aspect, Cells, Error, Fault, FaultKind, How, Item, Left, Part, Place, Reply, Settlement, StepName, Use,
 };

@@ -87,31 +87,52 @@ pub struct Counts {
     pub accesses: u64,
 }
 
+#[repr(C)]
+#[derive(Clone, Copy, Default)]
+pub struct Bytes {
+    pub from: u64,
+    pub to: u64,
+}
+
+#[repr(C)]
+#[derive(Clone, Copy, Default)]
+pub struct BadLimit {
+    pub list: u32,
+    pub place: u64,
+}
+
 extern "C" {
     pub fn wethlorn_version() -> u32;
-    pub fn wethlorn_open(budget: u64, serial: u64, limits: *const Limit, limits_count: usize, device: *mut Device) -> u32;
+    pub fn wethlorn_open(
+        budget: u64,
+        serial: u64,
+        best: *const Limit,
+        best_count: usize,
+        limits: *const Limit,
+        limits_count: usize,
+        device: *mut Device,
+        out: *mut BadLimit,
+    ) -> u32;
+    pub fn wethlorn_get_limit(device: *mut Device, name: u32, out: *mut u64) -> u32;
     pub fn wethlorn_close(device: *mut Device, out: *mut Left) -> u32;
-    pub fn wethlorn_create_buffer(device: *mut Device, who: u32, desc: *const BufferDesc, out: *mut Reply) -> u32;
-    pub fn wethlorn_create_texture(device: *mut Device, who: u32, desc: *const TextureDesc, out: *mut Reply) -> u32;
-    pub fn wethlorn_create_view(device: *mut Device, who: u32, texture: u64, desc: *const ViewDesc, out: *mut Reply) -> u32;
-    pub fn wethlorn_create_sampler(device: *mut Device, who: u32, kind: u32, out: *mut Reply) -> u32;
+    pub fn wethlorn_create_buffer(device: *mut Device, desc: *const BufferDesc, out: *mut Reply) -> u32;
+    pub fn wethlorn_create_texture(device: *mut Device, desc: *const TextureDesc, out: *mut Reply) -> u32;
+    pub fn wethlorn_create_view(device: *mut Device, texture: u64, desc: *const ViewDesc, out: *mut Reply) -> u32;
+    pub fn wethlorn_create_sampler(device: *mut Device, kind: u32, out: *mut Reply) -> u32;
     pub fn wethlorn_create_bind_group_layout(
         device: *mut Device,
-        who: u32,
         entries: *const LayoutEntry,
         entries_count: usize,
         out: *mut Reply,
     ) -> u32;
     pub fn wethlorn_create_pipeline_layout(
         device: *mut Device,
-        who: u32,
         layouts: *const u64,
         layouts_count: usize,
         out: *mut Reply,
     ) -> u32;
     pub fn wethlorn_create_bind_group(
         device: *mut Device,
-        who: u32,
         layout: u64,
         entries: *const GroupEntry,
         entries_count: usize,
@@ -119,7 +140,6 @@ extern "C" {
     ) -> u32;
     pub fn wethlorn_create_compute_pipeline(
         device: *mut Device,
-        who: u32,
         layout: u64,
         iface: *const IfaceEntry,
         iface_count: usize,
@@ -127,7 +147,6 @@ extern "C" {
     ) -> u32;
     pub fn wethlorn_create_render_pipeline(
         device: *mut Device,
-        who: u32,
         desc: *const RenderDesc,
         iface: *const IfaceEntry,
         iface_count: usize,
@@ -139,42 +158,32 @@ extern "C" {
         targets_count: usize,
         out: *mut Reply,
     ) -> u32;
-    pub fn wethlorn_get_bind_group_layout(device: *mut Device, who: u32, pipeline: u64, index: u32, out: *mut Reply) -> u32;
-    pub fn wethlorn_create_query_set(device: *mut Device, who: u32, count: u32, out: *mut Reply) -> u32;
-    pub fn wethlorn_create_encoder(device: *mut Device, who: u32, out: *mut Reply) -> u32;
+    pub fn wethlorn_get_bind_group_layout(device: *mut Device, pipeline: u64, index: u32, out: *mut Reply) -> u32;
+    pub fn wethlorn_create_query_set(device: *mut Device, count: u32, out: *mut Reply) -> u32;
+    pub fn wethlorn_create_encoder(device: *mut Device, out: *mut Reply) -> u32;
     pub fn wethlorn_create_bundle_encoder(
         device: *mut Device,
-        who: u32,
         desc: *const BundleDesc,
         colors: *const u32,
         colors_count: usize,
         out: *mut Reply,
     ) -> u32;
-    pub fn wethlorn_finish(device: *mut Device, who: u32, encoder: u64, out: *mut Reply) -> u32;
-    pub fn wethlorn_submit(device: *mut Device, who: u32, buffers: *const u64, buffers_count: usize, out: *mut Reply) -> u32;
-    pub fn wethlorn_write_buffer(device: *mut Device, who: u32, buffer: u64, offset: u64, size: u64, out: *mut Reply) -> u32;
-    pub fn wethlorn_write_texture(device: *mut Device, who: u32, write: *const TextureWrite, out: *mut Reply) -> u32;
-    pub fn wethlorn_map_async(
-        device: *mut Device,
-        who: u32,
-        buffer: u64,
-        mode: MapMode,
-        offset: u64,
-        size: u64,
-        out: *mut Reply,
-    ) -> u32;
-    pub fn wethlorn_unmap(device: *mut Device, who: u32, buffer: u64, out: *mut Reply) -> u32;
-    pub fn wethlorn_destroy(device: *mut Device, who: u32, object: u64, out: *mut Reply) -> u32;
-    pub fn wethlorn_drop(device: *mut Device, who: u32, object: u64, out: *mut Reply) -> u32;
-    pub fn wethlorn_complete(device: *mut Device, who: u32, op: u64, out: *mut Reply) -> u32;
-    pub fn wethlorn_work_done(device: *mut Device, who: u32, out: *mut Reply) -> u32;
-    pub fn wethlorn_push_error_scope(device: *mut Device, who: u32, filter: u32, out: *mut Reply) -> u32;
-    pub fn wethlorn_pop_error_scope(device: *mut Device, who: u32, out: *mut Reply) -> u32;
-    pub fn wethlorn_lose(device: *mut Device, who: u32, out: *mut Reply) -> u32;
-    pub fn wethlorn_begin_compute_pass(device: *mut Device, who: u32, encoder: u64, out: *mut Reply) -> u32;
+    pub fn wethlorn_finish(device: *mut Device, encoder: u64, out: *mut Reply) -> u32;
+    pub fn wethlorn_submit(device: *mut Device, buffers: *const u64, buffers_count: usize, out: *mut Reply) -> u32;
+    pub fn wethlorn_write_buffer(device: *mut Device, buffer: u64, offset: u64, size: u64, out: *mut Reply) -> u32;
+    pub fn wethlorn_write_texture(device: *mut Device, write: *const TextureWrite, out: *mut Reply) -> u32;
+    pub fn wethlorn_map_async(device: *mut Device, buffer: u64, mode: MapMode, offset: u64, size: u64, out: *mut Reply) -> u32;
+    pub fn wethlorn_unmap(device: *mut Device, buffer: u64, out: *mut Reply) -> u32;
+    pub fn wethlorn_destroy(device: *mut Device, object: u64, out: *mut Reply) -> u32;
+    pub fn wethlorn_drop(device: *mut Device, object: u64, out: *mut Reply) -> u32;
+    pub fn wethlorn_complete(device: *mut Device, op: u64, out: *mut Reply) -> u32;
+    pub fn wethlorn_work_done(device: *mut Device, out: *mut Reply) -> u32;
+    pub fn wethlorn_push_error_scope(device: *mut Device, filter: u32, out: *mut Reply) -> u32;
+    pub fn wethlorn_pop_error_scope(device: *mut Device, out: *mut Reply) -> u32;
+    pub fn wethlorn_lose(device: *mut Device, out: *mut Reply) -> u32;
+    pub fn wethlorn_begin_compute_pass(device: *mut Device, encoder: u64, out: *mut Reply) -> u32;
     pub fn wethlorn_begin_render_pass(
         device: *mut Device,
-        who: u32,
         encoder: u64,
         colors: *const Color,
         colors_count: usize,
@@ -182,49 +191,16 @@ extern "C" {
         queries: u64,
         out: *mut Reply,
     ) -> u32;
-    pub fn wethlorn_end(device: *mut Device, who: u32, encoder: u64, pass: u32, out: *mut Reply) -> u32;
-    pub fn wethlorn_push_debug_group(device: *mut Device, who: u32, encoder: u64, pass: u32, out: *mut Reply) -> u32;
-    pub fn wethlorn_pop_debug_group(device: *mut Device, who: u32, encoder: u64, pass: u32, out: *mut Reply) -> u32;
-    pub fn wethlorn_copy_buffer_to_buffer(
-        device: *mut Device,
-        who: u32,
-        encoder: u64,
-        copy: *const BufferCopy,
-        out: *mut Reply,
-    ) -> u32;
-    pub fn wethlorn_copy_buffer_to_texture(
-        device: *mut Device,
-        who: u32,
-        encoder: u64,
-        copy: *const TexelCopy,
-        out: *mut Reply,
-    ) -> u32;
-    pub fn wethlorn_copy_texture_to_buffer(
-        device: *mut Device,
-        who: u32,
-        encoder: u64,
-        copy: *const TexelCopy,
-        out: *mut Reply,
-    ) -> u32;
-    pub fn wethlorn_copy_texture_to_texture(
-        device: *mut Device,
-        who: u32,
-        encoder: u64,
-        copy: *const TextureCopy,
-        out: *mut Reply,
-    ) -> u32;
-    pub fn wethlorn_clear_buffer(
-        device: *mut Device,
-        who: u32,
-        encoder: u64,
-        buffer: u64,
-        offset: u64,
-        size: u64,
-        out: *mut Reply,
-    ) -> u32;
+    pub fn wethlorn_end(device: *mut Device, encoder: u64, pass: u32, out: *mut Reply) -> u32;
+    pub fn wethlorn_push_debug_group(device: *mut Device, encoder: u64, pass: u32, out: *mut Reply) -> u32;
+    pub fn wethlorn_pop_debug_group(device: *mut Device, encoder: u64, pass: u32, out: *mut Reply) -> u32;
+    pub fn wethlorn_copy_buffer_to_buffer(device: *mut Device, encoder: u64, copy: *const BufferCopy, out: *mut Reply) -> u32;
+    pub fn wethlorn_copy_buffer_to_texture(device: *mut Device, encoder: u64, copy: *const TexelCopy, out: *mut Reply) -> u32;
+    pub fn wethlorn_copy_texture_to_buffer(device: *mut Device, encoder: u64, copy: *const TexelCopy, out: *mut Reply) -> u32;
+    pub fn wethlorn_copy_texture_to_texture(device: *mut Device, encoder: u64, copy: *const TextureCopy, out: *mut Reply) -> u32;
+    pub fn wethlorn_clear_buffer(device: *mut Device, encoder: u64, buffer: u64, offset: u64, size: u64, out: *mut Reply) -> u32;
     pub fn wethlorn_resolve_query_set(
         device: *mut Device,
-        who: u32,
         encoder: u64,
         queries: u64,
         first: u32,
@@ -233,10 +209,9 @@ extern "C" {
         offset: u64,
         out: *mut Reply,
     ) -> u32;
-    pub fn wethlorn_set_pipeline(device: *mut Device, who: u32, encoder: u64, pass: u32, pipeline: u64, out: *mut Reply) -> u32;
+    pub fn wethlorn_set_pipeline(device: *mut Device, encoder: u64, pass: u32, pipeline: u64, out: *mut Reply) -> u32;
     pub fn wethlorn_set_bind_group(
         device: *mut Device,
-        who: u32,
         encoder: u64,
         pass: u32,
         index: u32,
@@ -245,19 +220,9 @@ extern "C" {
         offsets_count: usize,
         out: *mut Reply,
     ) -> u32;
-    pub fn wethlorn_dispatch(
-        device: *mut Device,
-        who: u32,
-        encoder: u64,
-        pass: u32,
-        x: u32,
-        y: u32,
-        z: u32,
-        out: *mut Reply,
-    ) -> u32;
+    pub fn wethlorn_dispatch(device: *mut Device, encoder: u64, pass: u32, x: u32, y: u32, z: u32, out: *mut Reply) -> u32;
     pub fn wethlorn_dispatch_indirect(
         device: *mut Device,
-        who: u32,
         encoder: u64,
         pass: u32,
         buffer: u64,
@@ -266,7 +231,6 @@ extern "C" {
     ) -> u32;
     pub fn wethlorn_set_vertex_buffer(
         device: *mut Device,
-        who: u32,
         encoder: u64,
         pass: u32,
         slot: u32,
@@ -277,7 +241,6 @@ extern "C" {
     ) -> u32;
     pub fn wethlorn_set_index_buffer(
         device: *mut Device,
-        who: u32,
         encoder: u64,
         pass: u32,
         buffer: u64,
@@ -288,7 +251,6 @@ extern "C" {
     ) -> u32;
     pub fn wethlorn_draw(
         device: *mut Device,
-        who: u32,
         encoder: u64,
         pass: u32,
         vertices: u32,
@@ -299,7 +261,6 @@ extern "C" {
     ) -> u32;
     pub fn wethlorn_draw_indexed(
         device: *mut Device,
-        who: u32,
         encoder: u64,
         pass: u32,
         indices: u32,
@@ -308,36 +269,20 @@ extern "C" {
         first_instance: u32,
         out: *mut Reply,
     ) -> u32;
-    pub fn wethlorn_draw_indirect(
-        device: *mut Device,
-        who: u32,
-        encoder: u64,
-        pass: u32,
-        buffer: u64,
-        offset: u64,
-        out: *mut Reply,
-    ) -> u32;
+    pub fn wethlorn_draw_indirect(device: *mut Device, encoder: u64, pass: u32, buffer: u64, offset: u64, out: *mut Reply)
+        -> u32;
     pub fn wethlorn_draw_indexed_indirect(
         device: *mut Device,
-        who: u32,
         encoder: u64,
         pass: u32,
         buffer: u64,
         offset: u64,
         out: *mut Reply,
     ) -> u32;
-    pub fn wethlorn_begin_occlusion_query(
-        device: *mut Device,
-        who: u32,
-        encoder: u64,
-        pass: u32,
-        index: u32,
-        out: *mut Reply,
-    ) -> u32;
-    pub fn wethlorn_end_occlusion_query(device: *mut Device, who: u32, encoder: u64, pass: u32, out: *mut Reply) -> u32;
+    pub fn wethlorn_begin_occlusion_query(device: *mut Device, encoder: u64, pass: u32, index: u32, out: *mut Reply) -> u32;
+    pub fn wethlorn_end_occlusion_query(device: *mut Device, encoder: u64, pass: u32, out: *mut Reply) -> u32;
     pub fn wethlorn_execute_bundles(
         device: *mut Device,
-        who: u32,
         encoder: u64,
         pass: u32,
         bundles: *const u64,
@@ -357,5 +302,6 @@ extern "C" {
     ) -> u32;
     pub fn wethlorn_item_use(device: *mut Device, at: usize, out: *mut Use) -> u32;
     pub fn wethlorn_item_access(device: *mut Device, at: usize, out: *mut Access) -> u32;
+    pub fn wethlorn_unset_range(device: *mut Device, buffer: u64, from: u64, to: u64, out: *mut Bytes) -> u32;
     pub fn wethlorn_next_settlement(device: *mut Device, out: *mut Settlement) -> u32;
 }

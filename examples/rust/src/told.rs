@@ -12,6 +12,10 @@ pub enum Error {
     NoObject,
     /// A value out of its range.
     BadValue,
+    /// Of an open: the place of the first limit that no adapter supports as its best.
+    BadBest(u64),
+    /// Of an open: the place of the first limit that one cannot ask of the adapter.
+    BadLimit(u64),
     /// No pass with this number was begun on the encoder.
     NoPass,
     /// A status that the interface has not, or not of this call.
@@ -24,6 +28,8 @@ impl fmt::Display for Error {
             Error::NoMemory => out.write_str("no memory on the host"),
             Error::NoObject => out.write_str("no object has this number"),
             Error::BadValue => out.write_str("a value is out of its range"),
+            Error::BadBest(place) => write!(out, "no adapter supports the limit at place {place}"),
+            Error::BadLimit(place) => write!(out, "the limit at place {place} cannot be asked of the adapter"),
             Error::NoPass => out.write_str("no pass has this number"),
             Error::Status(status) => write!(out, "status {status}"),
         }
@@ -33,15 +39,24 @@ impl fmt::Display for Error {
 impl std::error::Error for Error {}
 
 pub(crate) const OK: u32 = 0;
+pub(crate) const BAD_VALUE: u32 = 4;
+pub(crate) const END: u32 = 6;
 pub(crate) const NO_ROOM: u32 = 8;
 
 pub(crate) fn error(status: u32) -> Error {
     match status {
         1 => Error::NoMemory,
         2 => Error::NoObject,
-        4 => Error::BadValue,
+        BAD_VALUE => Error::BadValue,
         5 => Error::NoPass,
         other => Error::Status(other),
+    }
+}
+
+pub(crate) fn bad_limit(it: &raw::BadLimit) -> Error {
+    match it.list {
+        1 => Error::BadBest(it.place),
+        _ => Error::BadLimit(it.place),
     }
 }
 
@@ -69,7 +84,7 @@ pub enum FaultKind {
     OutOfMemory,
 }
 
-/// The first rule that a call broke (`docs/rules.md`).
+/// The first rule that a call broke, which [`rule_text`](crate::rule_text) has in words.
 #[derive(Clone, Copy, Debug, PartialEq, Eq)]
 pub struct Fault {
     pub kind: FaultKind,

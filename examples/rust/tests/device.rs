@@ -4,7 +4,6 @@ use std::sync::{Arc, Mutex};
 use std::thread;
 use wethlorn::*;
 
-const ME: u32 = 0;
 const DESC: BufferDesc = BufferDesc {
     size: 64,
     usage: BufferUsage::COPY_DST,
@@ -13,13 +12,13 @@ const DESC: BufferDesc = BufferDesc {
 
 #[test]
 fn a_device_moves_between_threads() {
-    let device = Arc::new(Mutex::new(Device::open(1 << 20, &[]).unwrap()));
+    let device = Arc::new(Mutex::new(Device::open(1 << 20, &[], &[]).unwrap()));
     let callers: Vec<_> = (0..4)
-        .map(|who| {
+        .map(|_| {
             let device = Arc::clone(&device);
             thread::spawn(move || {
                 (0..100)
-                    .map(|_| device.lock().unwrap().create_buffer(who, &DESC).unwrap().object().unwrap())
+                    .map(|_| device.lock().unwrap().create_buffer(&DESC).unwrap().object().unwrap())
                     .collect()
             })
         })
@@ -34,22 +33,33 @@ fn a_device_moves_between_threads() {
 
 #[test]
 fn a_number_that_names_nothing_is_an_error_and_no_entry() {
-    let mut device = Device::open(1024, &[]).unwrap();
-    assert_eq!(device.destroy(ME, 0), Err(Error::NoObject));
-    let made = device.create_buffer(ME, &DESC).unwrap();
+    let mut device = Device::open(1024, &[], &[]).unwrap();
+    assert_eq!(device.destroy(0), Err(Error::NoObject));
+    let made = device.create_buffer(&DESC).unwrap();
     assert_eq!((made.entry, made.object()), (Some(0), Some(0)));
-    assert_eq!(device.drop_object(ME, 0).unwrap().entry, Some(1));
+    assert_eq!(device.drop_object(0).unwrap().entry, Some(1));
     assert_eq!(device.next_item(), Some(Item::Release(0)));
     assert_eq!(device.next_item(), None);
-    assert_eq!(device.destroy(ME, 0), Err(Error::NoObject));
-    assert_eq!(device.create_buffer(ME, &DESC).unwrap().entry, Some(2));
+    assert_eq!(device.destroy(0), Err(Error::NoObject));
+    assert_eq!(device.create_buffer(&DESC).unwrap().entry, Some(2));
+}
+
+#[test]
+fn bytes_that_were_not_written_are_unset() {
+    let mut device = Device::open(1024, &[], &[]).unwrap();
+    device.create_buffer(&DESC).unwrap();
+    device.write_buffer(0, 16, 32).unwrap();
+    assert_eq!(device.unset_range(0, 0..64), Ok(Some(0..16)));
+    assert_eq!(device.unset_range(0, 16..64), Ok(Some(48..64)));
+    assert_eq!(device.unset_range(0, 16..48), Ok(None));
+    assert_eq!(device.unset_range(1, 0..4), Err(Error::NoObject));
 }
 
 #[test]
 fn a_number_of_another_kind_is_a_fault() {
-    let mut device = Device::open(1024, &[]).unwrap();
-    let buffer = device.create_buffer(ME, &DESC).unwrap().object().unwrap();
-    let reply = device.submit(ME, &[buffer]).unwrap();
+    let mut device = Device::open(1024, &[], &[]).unwrap();
+    let buffer = device.create_buffer(&DESC).unwrap().object().unwrap();
+    let reply = device.submit(&[buffer]).unwrap();
     assert_eq!(
         reply.fault.map(|fault| (fault.kind, fault.scope)),
         Some((FaultKind::Validation, None))
@@ -57,17 +67,29 @@ fn a_number_of_another_kind_is_a_fault() {
 }
 
 #[test]
+fn a_rule_is_told_in_words() {
+    let mut device = Device::open(1024, &[], &[]).unwrap();
+    let usage = BufferUsage::NONE;
+    let rule = device
+        .create_buffer(&BufferDesc { usage, ..DESC })
+        .unwrap()
+        .fault
+        .unwrap()
+        .rule;
+    assert_eq!(rule_text(rule), Some("the usage is not 0 and at most 1023"));
+    assert_eq!(rule_section(rule), Some("Buffer Creation"));
+    assert_eq!((rule_text(0), rule_section(0)), (None, None));
+}
+
+#[test]
 fn an_error_scope_receives_a_fault() {
-    let mut device = Device::open(1024, &[]).unwrap();
-    device.push_error_scope(ME, FILTER_VALIDATION).unwrap();
+    let mut device = Device::open(1024, &[], &[]).unwrap();
+    device.push_error_scope(FILTER_VALIDATION).unwrap();
     let made = device
-        .create_buffer(
-            ME,
-            &BufferDesc {
-                usage: BufferUsage::NONE,
-                ..DESC
-            },
-        )
+        .create_buffer(&BufferDesc {
+            usage: BufferUsage::NONE,
+            ..DESC
+        })
         .unwrap();
     assert_eq!(
         made.fault,
@@ -77,7 +99,7 @@ fn an_error_scope_receives_a_fault() {
             scope: Some(0)
         })
     );
-    let popped = device.pop_error_scope(ME).unwrap();
+    let popped = device.pop_error_scope().unwrap();
     assert_eq!((popped.answer, popped.settles), (Answer::Promised(2), 1));
     let how = How::Error {
         kind: FaultKind::Validation,
@@ -91,38 +113,46 @@ fn an_error_scope_receives_a_fault() {
 fn what_is_left_out_of_a_descriptor_names_nothing() {
     assert_eq!(GroupEntry::default().object, NONE);
     assert_eq!((Color::default().view, Color::default().resolve), (NONE, NONE));
-    let mut device = Device::open(1024, &[]).unwrap();
-    let encoder = device.create_encoder(ME).unwrap().object().unwrap();
-    let copy = device.copy_buffer_to_buffer(ME, encoder, &BufferCopy::default());
+    let mut device = Device::open(1024, &[], &[]).unwrap();
+    let encoder = device.create_encoder().unwrap().object().unwrap();
+    let copy = device.copy_buffer_to_buffer(encoder, &BufferCopy::default());
     assert_eq!(copy.err(), Some(Error::NoObject));
     let usage = BufferUsage::COPY_DST | BufferUsage::VERTEX;
-    assert!(device
-        .create_buffer(ME, &BufferDesc { usage, ..DESC })
-        .unwrap()
-        .fault
-        .is_none());
+    assert!(device.create_buffer(&BufferDesc { usage, ..DESC }).unwrap().fault.is_none());
 }
 
 #[test]
 fn values_out_of_range_are_errors() {
-    let mut device = Device::open(1024, &[]).unwrap();
-    assert_eq!(device.push_error_scope(ME, 0), Err(Error::BadValue));
-    let encoder = device.create_encoder(ME).unwrap().object().unwrap();
-    assert_eq!(device.end(ME, encoder, 3), Err(Error::NoPass));
-    let limits = [Limit {
+    let mut device = Device::open(1024, &[], &[]).unwrap();
+    assert_eq!(device.push_error_scope(0), Err(Error::BadValue));
+    let encoder = device.create_encoder().unwrap().object().unwrap();
+    assert_eq!(device.end(encoder, 3), Err(Error::NoPass));
+    assert_eq!(device.limit(0), Err(Error::BadValue));
+}
+
+#[test]
+fn a_device_has_the_limits_that_its_adapter_lets_one_ask_for() {
+    let sized = |value| Limit {
         name: MAX_BUFFER_SIZE,
-        value: u64::MAX,
-    }];
-    assert_eq!(Device::open(1024, &limits).err(), Some(Error::BadValue));
+        value,
+    };
+    let (best, more) = (sized(DEFAULT_MAX_BUFFER_SIZE + 4), sized(DEFAULT_MAX_BUFFER_SIZE + 8));
+    let opened = |best: &[Limit], limits: &[Limit]| Device::open(1024, best, limits).map(|mut it| it.limit(MAX_BUFFER_SIZE));
+    assert_eq!(opened(&[], &[]).unwrap(), Ok(DEFAULT_MAX_BUFFER_SIZE));
+    assert_eq!(opened(&[best], &[best]).unwrap(), Ok(best.value));
+    assert_eq!(opened(&[best], &[best, more]).err(), Some(Error::BadLimit(1)));
+    assert_eq!(opened(&[best, sized(0)], &[more]).err(), Some(Error::BadBest(1)));
+    assert_eq!(opened(&[], &[sized(u64::MAX)]).err(), Some(Error::BadLimit(0)));
+    assert_eq!(opened(&[], &[sized(BEST_MAX_BUFFER_SIZE)]).unwrap(), Ok(BEST_MAX_BUFFER_SIZE));
 }
 
 #[test]
 fn a_close_tells_what_was_not_drained() {
-    let mut device = Device::open(1024, &[]).unwrap();
-    let buffer = device.create_buffer(ME, &DESC).unwrap().object().unwrap();
-    device.drop_object(ME, buffer).unwrap();
-    device.push_error_scope(ME, FILTER_VALIDATION).unwrap();
-    device.pop_error_scope(ME).unwrap();
+    let mut device = Device::open(1024, &[], &[]).unwrap();
+    let buffer = device.create_buffer(&DESC).unwrap().object().unwrap();
+    device.drop_object(buffer).unwrap();
+    device.push_error_scope(FILTER_VALIDATION).unwrap();
+    device.pop_error_scope().unwrap();
     assert_eq!(
         device.close(),
         Left {
@@ -131,7 +161,7 @@ fn a_close_tells_what_was_not_drained() {
         }
     );
     assert_eq!(
-        Device::open(1024, &[]).unwrap().close(),
+        Device::open(1024, &[], &[]).unwrap().close(),
         Left {
             items: 0,
             settlements: 0
@@ -151,10 +181,10 @@ fn the_library_is_of_the_version_of_the_crate() {
 #[test]
 fn all_items_are_those_that_are_told_one_by_one() {
     let played = |count: u64| {
-        let mut device = Device::open(1 << 20, &[]).unwrap();
+        let mut device = Device::open(1 << 20, &[], &[]).unwrap();
         for _ in 0..count {
-            let buffer = device.create_buffer(ME, &DESC).unwrap().object().unwrap();
-            device.write_buffer(ME, buffer, 4, 8).unwrap();
+            let buffer = device.create_buffer(&DESC).unwrap().object().unwrap();
+            device.write_buffer(buffer, 4, 8).unwrap();
         }
         device
     };

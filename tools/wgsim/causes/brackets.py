@@ -77,8 +77,10 @@ def left_open(case: Case, place: Played, opened: list[Played]) -> Cause | None:
         if len(opened) == 1
         else f"{len(opened)} debug groups of {case.named(place)} are open, the first pushed"
     )
-    values = {"object": place.call["as"], "open": len(opened), "pushed": case.place(opened[0])}
-    return Cause(f"{many} at {case.place(opened[0])}", values, f"Pop {'it' if len(opened) == 1 else 'them'} before.", about=opened[0])
+    label, at = case.play.call_of(opened[0]).label, case.place(opened[0])
+    said = f"{many} as{label} at {at}" if label else f"{many} at {at}"
+    values = {"object": place.call["as"], "open": len(opened), "pushed": at}
+    return Cause(said, values, f"Pop {'it' if len(opened) == 1 else 'them'} before.", about=opened[0])
 
 
 @rule(183)

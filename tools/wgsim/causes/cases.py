@@ -64,8 +64,8 @@ class Case:
         return f'"{thing.call["as"]}"'
 
     def named(self, thing: Played) -> str:
-        """What a call made, with the line and column of that call."""
-        return f"{self.name(thing)} ({self.place(thing)})"
+        """What a call made, with its label, if it has one, and the line and column of that call."""
+        return f"{self.name(thing)}{self.play.call_of(thing).label} ({self.place(thing)})"
 
     def called(self, key: str) -> str:
         """What a thing is called that stands under a key."""

@@ -1,1 +1,1 @@
-"""What writes the pages, and the parts of pages, that say what stands elsewhere: `tools/python -m wgsim.generated`."""
+"""What writes the pages, the parts of pages and the files for callers that say what stands elsewhere: `tools/python -m wgsim.generated`."""

@@ -1,6 +1,7 @@
 """Writes what is generated of the pages.
 
-    tools/python -m wgsim.generated --write     writes docs/rules.md, docs/definitions.md behind its mark, and the tables of other pages
+    tools/python -m wgsim.generated --write     writes docs/rules.md, docs/definitions.md behind its mark, the tables of other pages, and
+                                                what rules ask for callers in C and Rust
     tools/python -m wgsim.generated --check     says what of these is not as it would be written, and which definition has no sentence
 """
 
@@ -10,9 +11,9 @@ import argparse
 import sys
 
 from wgsim import TOP
-from wgsim.generated import definitions, rule_page, tables
+from wgsim.generated import definitions, rule_page, rule_texts, tables
 
-GENERATED = (rule_page, definitions, tables)
+GENERATED = (rule_page, rule_texts, definitions, tables)
 
 
 def main() -> int:

@@ -128,8 +128,10 @@ def cell(text: str) -> str:
 
 def told_rule(difference: Difference) -> list[str]:
     """The words of the rule and its section of the standard."""
+    # Of a scope and of a promise the message has both answers, which the table has.
+    has_words = bool(difference.message) and difference.kind not in (differences.SCOPE, differences.SETTLED)
     if difference.rule is None:
-        return [] if not difference.message else ["The other says:", "", "```", difference.message.strip(), "```", ""]
+        return ["The other says:", "", "```", difference.message.strip(), "```", ""] if has_words else []
     word = differences_call(difference)
     return [f"Rule {rule_line(difference.rule, each)}" for each in rules.of(difference.rule, word)[:2]] + [""]
 

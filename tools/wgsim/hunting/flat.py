@@ -1,5 +1,5 @@
 """Makes of a script one of a single lane that a browser can play: in the order in which the core took its calls, and without what cannot be
-played. What is left out is counted under a name, and with it goes what names it."""
+played. What is left out is counted under a name, and with it goes what names it. Labels are left out too: no answer hangs on them. """
 
 from __future__ import annotations
 
@@ -50,7 +50,7 @@ def playable(core: Core, flat: Flat, left: collections.Counter[str]) -> Answered
     """What the core answers to as much of a script as can be played; None where that is refused."""
     gone = unplayable(flat.calls)
     left.update(gone.values())
-    calls = shape.without(flat.calls, set(gone))
+    calls = shape.without([without_label(call) for call in flat.calls], set(gone))
     for _ in range(ROUNDS):
         answered = core.answered(Flat(calls, flat.limits, MEMORY))
         if answered is None:
@@ -63,6 +63,10 @@ def playable(core: Core, flat: Flat, left: collections.Counter[str]) -> Answered
             return answered
         calls = shape.without(answered.flat.calls, set(gone))
     return None
+
+
+def without_label(call: dict[str, Any]) -> dict[str, Any]:
+    return {key: value for key, value in call.items() if key != "label"}
 
 
 def unplayable(calls: list[dict[str, Any]]) -> dict[int, str]:

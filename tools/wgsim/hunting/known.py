@@ -111,11 +111,12 @@ def is_encoder_refused(difference: Difference) -> bool:
 
 
 def names_destroyed(difference: Difference) -> bool:
-    """Whether a command of the encoder that a finish ends names what is destroyed by then."""
+    """Whether a command of the encoder that a finish ends names what is destroyed by then, or a view of it."""
     encoders, destroyed, named = {difference.call.get("on")}, set(), set()
+    views = {call["as"]: call["texture"] for call in difference.script if call["do"] == "createView"}
     for call in before(difference):
         if call["do"] == "destroy":
-            destroyed.add(call["object"])
+            destroyed |= {call["object"], *(view for view, texture in views.items() if texture == call["object"])}
         elif call.get("on") in encoders:
             named |= shape.names_in(call)
             encoders |= {call["as"]} if "as" in call else set()
@@ -200,6 +201,70 @@ def is_fewer(difference: Difference) -> bool:
     return theirs != ours and all(ours.get(kind, 0) >= times for kind, times in theirs.items())
 
 
+def is_more(difference: Difference) -> bool:
+    """Whether more validation errors reached a handler than none caught, by one at most for each encoder that is finished while a pass of
+    it is open."""
+    ours, theirs = counted(difference.core), counted(difference.other)
+    more = {kind: times - ours.get(kind, 0) for kind, times in theirs.items() if times > ours.get(kind, 0)}
+    return list(more) == ["validation"] and more["validation"] <= left_open(difference.script)
+
+
+def left_open(script: list[dict[str, Any]]) -> int:
+    """How many encoders are finished while a pass of them is open."""
+    passes: dict[str, str] = {}
+    times = 0
+    for call in script:
+        if call["do"] in ("beginComputePass", "beginRenderPass"):
+            passes[call["as"]] = call["on"]
+        elif call["do"] == "end":
+            passes.pop(call["on"], None)
+        times += call["do"] == "finish" and call["on"] in passes.values()
+    return times
+
+
+def has_group_left(difference: Difference) -> bool:
+    """Whether a compute pass of what is submitted sets a bind group that no dispatch uses, since none follows or its pipeline has fewer
+    groups."""
+    script = before(difference)
+    ended = {call["on"] for call in script if call["do"] == "finish" and call["as"] in difference.call.get("buffers", [])}
+    passes = {call["as"] for call in script if call["do"] == "beginComputePass" and call["on"] in ended}
+    layouts = {call["as"]: len(call["layouts"]) for call in script if call["do"] == "createPipelineLayout"}
+    pipelines = {call["as"]: call for call in script if call["do"] == "createComputePipeline"}
+    count, waiting = dict.fromkeys(passes, 0), set()
+    for call in script:
+        on = call.get("on", "")
+        if on not in passes:
+            continue
+        if call["do"] == "setPipeline" and call["pipeline"] in pipelines:
+            count[on] = groups_of(pipelines[call["pipeline"]], layouts)
+        elif call["do"] == "setBindGroup":
+            if (on, call["index"]) in waiting:
+                return True
+            waiting.add((on, call["index"]))
+        elif call["do"] in ("dispatch", "dispatchIndirect"):
+            waiting = {(each, index) for each, index in waiting if each != on or index >= count[on]}
+    return bool(waiting)
+
+
+def groups_of(pipeline: dict[str, Any], layouts: dict[str, int]) -> int:
+    """How many groups the layout of a pipeline has."""
+    declared = [entry["group"] + 1 for entry in pipeline["iface"]]
+    return layouts.get(pipeline["layout"], max(declared, default=0))
+
+
+def lacks_aspect(difference: Difference) -> bool:
+    """Whether a bundle encoder has a format of depth alone, or of stencil alone."""
+    formats = [call["depth"] for call in difference.script if call["do"] == "createBundleEncoder"]
+    return any(word is not None and ("depth" in word) != ("stencil" in word) for word in formats)
+
+
+def has_one_aspect(difference: Difference) -> bool:
+    """Whether a pass of the encoder that a finish ends has a depth attachment of which one aspect is read-only and the other is not."""
+    passes = [call for call in before(difference) if call["do"] == "beginRenderPass" and call["on"] == difference.call["on"]]
+    depths = [call["depth"] for call in passes if call.get("depth")]
+    return any(depth.get("depthReadOnly", False) != depth.get("stencilReadOnly", False) for depth in depths)
+
+
 def counted(text: str) -> dict[str, int]:
     """How many errors of which kinds are told in a line (differences.told_of)."""
     return {kind: int(times) for times, kind in re.findall(r"(\d+) ([a-z-]+)", text)}
@@ -211,5 +276,6 @@ TESTS = {
         is_served, is_texel_buffer, is_lost, is_encoder_refused, names_destroyed, has_canvas, has_pass, follows_map,
         has_depth_color, has_deep_resolve, has_null_targets, has_visibility, has_no_bundle, is_fewer,
         has_destroyed_queries, has_empty_copy, has_odd_index, has_configured,
+        is_more, has_one_aspect, has_group_left, lacks_aspect,
     )
 }

@@ -258,6 +258,12 @@ def target_of_copy(call: dict[str, Any]) -> dict[str, Any]:
     return spot(call, "target", "targetMip", "targetOrigin")
 
 
+def base_vertex(call: dict[str, Any]) -> int:
+    """The base vertex, which has a sign in a browser: from 2^31 on it is a number below 0."""
+    base = call["baseVertex"]
+    return base - 2**32 if base >= 2**31 else base
+
+
 def groups(call: dict[str, Any]) -> Any:
     return call["offsets"] or None
 
@@ -317,7 +323,7 @@ TRANSLATE: dict[str, Callable[[Any], dict[str, Any]]] = {
     "setVertexBuffer": command("setVertexBuffer", key("slot"), named("buffer"), key("offset"), key("size")),
     "setIndexBuffer": command("setIndexBuffer", named("buffer"), key("format"), key("offset"), key("size")),
     "draw": command("draw", key("vertices"), key("instances"), key("firstVertex"), key("firstInstance")),
-    "drawIndexed": command("drawIndexed", key("indices"), key("instances"), key("firstIndex"), lambda call: 0, key("firstInstance")),
+    "drawIndexed": command("drawIndexed", key("indices"), key("instances"), key("firstIndex"), base_vertex, key("firstInstance")),
     "drawIndirect": command("drawIndirect", named("buffer"), key("offset")),
     "drawIndexedIndirect": command("drawIndexedIndirect", named("buffer"), key("offset")),
     "beginOcclusionQuery": command("beginOcclusionQuery", key("index")),

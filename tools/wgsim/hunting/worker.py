@@ -23,7 +23,7 @@ from .sources import Source, kept_in
 
 def main() -> None:
     """Plays what it is told to until nothing more comes."""
-    signal.signal(signal.SIGTERM, lambda *_: sys.exit(1))
+    signal.signal(signal.SIGTERM, stop)
     reads = os.fdopen(os.dup(0), "rb")
     writes = os.fdopen(os.dup(1), "wb")
     # What is said besides goes where errors do, and not among the messages.
@@ -38,6 +38,13 @@ def main() -> None:
             work(reads, tell)
         except exit_status.End as end:
             tell(Ended(end.status, end.why))
+    signal.signal(signal.SIGTERM, signal.SIG_IGN)
+
+
+def stop(*_: Any) -> None:
+    """Ends the process, its browser first. What says so again, as the hunt does, comes while it ends, and changes nothing."""
+    signal.signal(signal.SIGTERM, signal.SIG_IGN)
+    sys.exit(1)
 
 
 def work(reads: Any, tell: Any) -> None:

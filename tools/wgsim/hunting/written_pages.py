@@ -64,6 +64,8 @@ class Written:
         self.answered = answered
         self.entry = answered.entry_of.get(difference.number) if difference.number is not None else None
         self.is_scoped = difference.kind == differences.SCOPE
+        # Whether it is the errors that differ which no scope catches.
+        self.is_counted = self.is_scoped and difference.number is None
         is_error = difference.kind in (differences.CORE_ALONE, differences.OTHER_ALONE, differences.KIND)
         self.watched = difference.number if is_error else None
 
@@ -103,6 +105,11 @@ class Written:
             return [call["n"] for call in self.calls if call["do"] == "popErrorScope"]
         return [self.difference.number] if self.difference.number is not None and self.watched is None else []
 
+    def uncaught(self) -> list[str]:
+        """The kinds of the errors that no scope catches, as the core has them."""
+        faults = [(entry.fault, self.answered.whole[number]) for number, entry in self.answered.entry_of.items() if entry.fault is not None]
+        return sorted(fault[0] for fault, call in faults if differences.is_uncaught(fault, call))
+
     def wanted_of(self, number: int) -> str:
         """How the core settles a promise."""
         return re.sub(r" \d+$", "", self.answered.settled.get(number, "nothing"))
@@ -112,10 +119,14 @@ class Written:
         if self.watched is not None:
             fault = self.entry.fault if self.entry is not None else None
             return "no error" if fault is None else EXCEPTION if fault[1] in differences.THROWS else ERRORS[fault[0]]
+        if self.is_counted:
+            return "errors that no scope catches: " + (", ".join(self.uncaught()) or "none")
         return "; ".join(f"call {number}: {self.wanted_of(number)}" for number in self.promises()) or self.difference.core
 
     def assertions(self) -> list[str]:
         """What a test asks."""
+        if self.is_counted:
+            return [f"assert_array_equals(uncaught.sort(), {code(self.uncaught())}, 'the errors that no scope catches');"]
         if self.watched is None:
             wanted = {number: self.wanted_of(number) for number in self.promises()}
             is_met = {number: "fulfilled" if word in ("mapped", "done") else word for number, word in wanted.items()}
@@ -141,6 +152,13 @@ def beginning(answered: Answered) -> list[str]:
     return ["const adapter = await navigator.gpu.requestAdapter();", f"const device = await adapter.requestDevice({limits});"]
 
 
+COUNTING = [
+    "const uncaught = [];",
+    "device.addEventListener('uncapturederror', event => uncaught.push(kindOf(event.error)));",
+]
+COUNTED = ["await device.queue.onSubmittedWorkDone();", "await new Promise(done => setTimeout(done, 500));"]
+
+
 def indented(lines: list[str], by: str) -> str:
     return "\n".join(by + line if line else line for line in lines)
 
@@ -151,10 +169,14 @@ def page(title: str, answered: Answered, difference: Difference, about: str) -> 
     if written.watched is not None:
         answer = "thrown ? String(thrown) : found ? found.constructor.name + ': ' + found.message : 'no error'"
         tell = [f"say('the browser answers: ' + ({answer}));"]
+    elif written.is_counted:
+        tell = [*COUNTED, "say('errors that no scope caught: ' + (uncaught.sort().join(', ') || 'none'));"]
     else:
         tell = [f"say('call {number} is settled: ' + await promise{number});" for number in written.promises()]
     uncaught = "device.addEventListener('uncapturederror', event => say('uncaptured: ' + event.error.message));"
-    body = [*beginning(answered), uncaught, SETTLED, *written.lines(), *tell, f"say({code('the standard asks: ' + written.asked())});"]
+    asked = f"say({code('the standard asks: ' + written.asked())});"
+    counting = COUNTING if written.is_counted else []
+    body = [*beginning(answered), uncaught, SETTLED, *counting, *written.lines(), *tell, asked]
     return f"""<!doctype html>
 <meta charset="utf-8">
 <title>{html.escape(title)}</title>
@@ -170,7 +192,8 @@ const say = text => {{ console.log(text); document.querySelector('#told').textCo
 def test(title: str, answered: Answered, difference: Difference) -> str:
     """The same as a test of the web platform."""
     written = Written(answered, difference)
-    body = [*beginning(answered), *SETTLED.splitlines(), *written.lines(), *written.assertions()]
+    counting, counted = (COUNTING, COUNTED) if written.is_counted else ([], [])
+    body = [*beginning(answered), *SETTLED.splitlines(), *counting, *written.lines(), *counted, *written.assertions()]
     return f"""<!doctype html>
 <meta charset="utf-8">
 <title>{html.escape(title)}</title>

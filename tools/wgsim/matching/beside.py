@@ -123,6 +123,12 @@ class Beside:
         """An object by its name in the script, or else by its kind and number."""
         return self.names.get(number) or f"{reports.SORTS.get(sort, sort)} {number}"
 
+    def label_of(self, number: int) -> str:
+        """The label of the call that made an object, as it stands behind a name."""
+        entry = self.makers.get(number)
+        call = self.call_of.get(entry.number) if entry is not None else None
+        return call.label if call is not None else ""
+
     def object_of(self, name: str | None) -> Entry | None:
         """The entry that made the object that a name stands for, or None."""
         return self.entry_of.get(self.script.maker_of(name))

@@ -140,7 +140,7 @@ class Explained:
         frame = self.beside.call_of[entry.number].frame if entry.number in self.beside.call_of else None
         if number is not None:
             name = self.beside.names.get(number)
-            made = f"makes {name}, object {number}" if name else f"makes object {number}"
+            made = f"makes {self.beside.script.labeled(name)}, object {number}" if name else f"makes object {number}"
             lost = ", since the device is lost" if self.scopes.is_lost_before(entry) else ""
             return f"{made}, {entry.answer[2]}{lost}" + (f": {frame.said()}" if frame is not None else "")
         if frame is not None:
@@ -187,7 +187,8 @@ class Explained:
         for _, name in found.call.names():
             self.invalid(name.what)
         if number == LOCKED and found.call.locked_by is not None:
-            self.say(f"    {found.call.locked_by.name} is open there, from {script.where(found.call.locked_by.call)} on")
+            by = found.call.locked_by
+            self.say(f"    {script.labeled(by.name)} is open there, from {script.where(by.call)} on")
         if number in OF_LAYOUTS:
             self.layouts([name.what for _, name in found.call.names()])
         if number in OF_TARGETS:
@@ -211,7 +212,7 @@ class Explained:
             finish = script.made.get(name)
             place = script.places.get(scripts.string_of(finish.value, "on")) if finish is not None else None
             if finish is not None and place is not None and calls.ends_encoder(finish.word):
-                self.say(f"    {name}: made by {finish.word} at {script.where(finish)}, of {script.said(place.call)}")
+                self.say(f"    {script.labeled(name)}: made by {finish.word} at {script.where(finish)}, of {script.said(place.call)}")
 
     def set_at(self, call: Call, is_of_scope: bool) -> None:
         """What is set where a dispatch or a draw comes, with the layouts of it all; of the scope of a render pass or a bundle all that it
@@ -251,7 +252,7 @@ class Explained:
             name = waiting.pop(0)
             maker = self.beside.script.made.get(name)
             if name not in told and maker is not None and calls.makes(maker.word) in LAYOUTS + WITH_LAYOUT:
-                self.say(f"    {name}: {maker.word} at {self.beside.script.where(maker)}")
+                self.say(f"    {self.beside.script.labeled(name)}: {maker.word} at {self.beside.script.where(maker)}")
                 waiting = [inner.what for _, inner in maker.names()] + waiting
                 told.add(name)
 
@@ -260,16 +261,17 @@ class Explained:
         if maker is not None and not maker.is_valid():
             call = self.beside.call_of[maker.number]
             why = f", by rule {maker.fault[1]}" if maker.fault else ""
-            self.say(f"    {name} is invalid since it was made: entry {maker.number}{why}, {self.beside.script.where(call)}")
+            told = self.beside.script.labeled(name)
+            self.say(f"    {told} is invalid since it was made: entry {maker.number}{why}, {self.beside.script.where(call)}")
 
     def ended(self, call: Call) -> None:
         place = self.beside.script.places.get(scripts.string_of(call.value, "on"))
         if place is not None and place.end is not None:
-            self.say(f"    {place.name} was ended at {self.beside.script.where(place.end)}")
+            self.say(f"    {self.beside.script.labeled(place.name)} was ended at {self.beside.script.where(place.end)}")
             return
         place = place.encoder or place if place is not None else None
         if place is not None and place.finish is not None:
-            self.say(f"    {place.name} was finished at {self.beside.script.where(place.finish)}")
+            self.say(f"    {self.beside.script.labeled(place.name)} was finished at {self.beside.script.where(place.finish)}")
 
     @functools.cached_property
     def first_with(self) -> dict[tuple[str, str], tuple[int, int, Call]]:
@@ -291,7 +293,7 @@ class Explained:
         found = [(*self.first_with[word, name], name) for word in words for name in names if (word, name) in self.first_with]
         for turn, _, other, name in sorted(found, key=lambda each: each[:2]):
             if turn < self.turn_of[call]:
-                self.say(f"    {name}: {other.word} at {self.beside.script.where(other)}")
+                self.say(f"    {self.beside.script.labeled(name)}: {other.word} at {self.beside.script.where(other)}")
 
     def reached(self, call: Call) -> set[str]:
         """The names that a call uses, those that the commands of the command buffers and bundles among them use, and what is bound in bind

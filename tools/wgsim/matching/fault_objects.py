@@ -14,6 +14,7 @@ from wgsim.matching import browser_errors, culprit, refusal
 from wgsim.matching.explained import answer, set_beside
 from wgsim.matching.scopes import Scopes
 from wgsim.reading import browser_answers
+from wgsim.reading.script import string_of
 
 if TYPE_CHECKING:
     from wgsim.matching.beside import Beside
@@ -96,6 +97,8 @@ def of_status(text: Text, beside: Beside, entry: Entry) -> dict[str, Any]:
     }
     if number is not None:
         found.update(object=number, name=beside.names.get(number))
+        label = string_of(call.value, "label") if call is not None else None
+        found.update({"label": label} if label else {})
     if entry.operation() is not None:
         found["operation"] = entry.operation()
     if call is not None and call.frame is not None:

@@ -120,7 +120,7 @@ class Maps:
             if stands is not None:
                 call = self.beside.call_of[stands.asked.number]
                 how = "is pending: a map of it waits" if stands.is_pending else f"is mapped for {stands.mode}"
-                lines.append(f"{name} {how}, by {call.word} at {self.beside.script.where(call)}")
+                lines.append(f"{self.beside.script.labeled(name)} {how}, by {call.word} at {self.beside.script.where(call)}")
         return lines
 
 

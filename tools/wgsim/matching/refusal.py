@@ -201,6 +201,8 @@ def wrong_values(refusal: Refusal, text: Text, owner: Value, keys: dict[str, Key
             found = shown(text.of(wrong))
             if wrong is value and value.kind == "list":
                 found = f"a list of {len(value.what)}"
+            if key.sort == "label" and wrong.kind == "string":
+                found = label_said(found, wrong.what)
             is_word = key.sort in ("word", "words") and wrong.kind == "string"
             hint = lacking.word(wrong.what, key.detail) or near(wrong.what, calls.WORDS[key.detail]) if is_word else None
             refusal.by(why_wrong(wrong, key, wrong is value))
@@ -211,8 +213,16 @@ def wrong_values(refusal: Refusal, text: Text, owner: Value, keys: dict[str, Key
     return None
 
 
+def label_said(found: str, label: str) -> str:
+    """A label that may not stand, by its bytes where it is too long, and else by the character."""
+    control = calls.control_in(label)
+    return f"{found} of {len(label.encode())} bytes" if calls.is_long(label) or control is None else f"{found} with the character {control}"
+
+
 def why_wrong(wrong: Value, key: Key, is_whole_value: bool) -> str:
     """The part of rule 8 that refuses a value, or an item of it, which is not what its key asks for."""
+    if key.sort == "label" and wrong.kind == "string":
+        return "long label" if calls.is_long(wrong.what) else "control"
     if is_whole_value and key.sort in ("three", *ITEMS) and wrong.kind == "list":
         return "three" if key.sort == "three" else "items"
     if key.sort in ("number", "numbers", "three") and wrong.kind == "number":
@@ -278,6 +288,8 @@ def wrong_in(value: Value, key: Key) -> Value | None:
         return None if value.kind == "string" and value.what in calls.WORDS[key.detail] else value
     if key.sort == "object":
         return None if value.kind == "object" else value
+    if key.sort == "label":
+        return None if value.kind == "string" and not calls.is_long(value.what) and calls.control_in(value.what) is None else value
     if key.sort in ITEMS:
         if value.kind != "list" or len(value.what) > 1024:
             return value

@@ -11,8 +11,8 @@ if TYPE_CHECKING:
     from wgsim.reading.browser_answers import Pages
     from wgsim.reading.report import Entry
 
-# What a fault of the next frame says otherwise: names, places and entries.
-OF_FRAME = re.compile(r'"\w+"|\(?\b\d+:\d+\b\)?|\bentry \d+|\bframe \d+')
+# What a fault of the next frame says otherwise: names, labels, places and entries.
+OF_FRAME = re.compile(r' ?"(?:[^"\\]|\\.)*"|\(?\b\d+:\d+\b\)?|\bentry \d+|\bframe \d+')
 # Of a fault that comes again how many entries are told.
 MOST = 3
 

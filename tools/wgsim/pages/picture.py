@@ -17,6 +17,7 @@ from wgsim.exit_status import REFUSED
 from wgsim.matching import browser_errors, explained, refusal
 from wgsim.pages.fault_list import Faults
 from wgsim.reading import browser_answers, frames
+from wgsim.reading import script as scripts
 from wgsim.reading.report import SORTS, Release, count, summary
 
 if TYPE_CHECKING:
@@ -33,6 +34,8 @@ STYLE, SCRIPT = ((FOLDER / name).read_text(encoding="utf-8") for name in ("pictu
 MOST = 6
 # Runs of layers that the name of a row has at most.
 MOST_RUNS = 3
+# Letters of a label, with its quotes, that the name of a row has at most.
+MOST_LABEL = 60
 ACCESSES = {"read": "read", "write": "write", "both": "read and write", "drop": "discard", "readdrop": "read and discard"}
 LEGEND = (
     ("box read", "reads"),
@@ -97,6 +100,7 @@ class Row:
     def __init__(self, key: Key) -> None:
         self.sort, self.object, self.aspect, self.mip = key
         self.frame: frames.Frame | None = None
+        self.label = ""
         self.first: int | None = None
         self.last: int | None = None
         self.layers: set[tuple[int, int]] = set()
@@ -116,8 +120,10 @@ class Row:
         return runs
 
     def piece(self) -> str:
-        """Which frame of its canvas it is of, if it is of one, and which piece of its texture it is."""
-        return ", ".join(([self.frame.said()] if self.frame is not None else []) + ([self.image()] if self.aspect else []))
+        """The label of its resource, if that has one; which frame of its canvas it is of, if it is of one; and which piece of its texture
+        it is."""
+        frame = [self.frame.said()] if self.frame is not None else []
+        return ", ".join([self.label] * bool(self.label) + frame + ([self.image()] if self.aspect else []))
 
     def image(self) -> str:
         runs = self.runs()
@@ -155,6 +161,7 @@ class Picture:
         self.release(found)
         for row in found.values():
             row.frame = self.beside.frame_of(row.object)
+            row.label = scripts.shown(self.beside.label_of(row.object), MOST_LABEL)
         self.rows = dict(sorted(found.items(), key=lambda item: (item[0][1], item[0][0], item[0][2:])))
         self.numbers = {key: number for number, key in enumerate(self.rows)}
 

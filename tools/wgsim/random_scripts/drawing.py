@@ -254,12 +254,13 @@ def draw_call(world: World, on: str, word: str, pipeline: Thing, now: Now, past:
     if word == "drawIndexed":
         most = size_set(world, now["index"]) // INDEX_BYTES[now["index"][3]]
         first, count = first_and_count(random, most, past == "indices")
-        call = {"do": "drawIndexed", "on": on, "indices": count, "firstIndex": first}
+        base = random.choice([0, 0, 0, 0, 1, 3, 2**31 - 1, 2**31, GREATEST_32 - 2, GREATEST_32])
+        call = {"do": "drawIndexed", "on": on, "indices": count, "firstIndex": first, "baseVertex": base}
     else:
         first, count = first_and_count(random, most_elements(world, pipeline, now, "vertex"), past == "vertices")
         call = {"do": "draw", "on": on, "vertices": count, "firstVertex": first}
     call.update({"instances": instances[1], "firstInstance": instances[0]})
-    usual = {"firstIndex": 0, "firstVertex": 0, "firstInstance": 0, "instances": 1}
+    usual = {"firstIndex": 0, "firstVertex": 0, "baseVertex": 0, "firstInstance": 0, "instances": 1}
     return {key: value for key, value in call.items() if usual.get(key, ...) != value or random.random() < 0.2}
 
 

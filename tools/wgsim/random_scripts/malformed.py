@@ -4,7 +4,7 @@ from __future__ import annotations
 
 from typing import TYPE_CHECKING, Any
 
-from . import canvases, grouping, limiting, passing, worlds
+from . import canvases, grouping, labels, limiting, passing, worlds
 from .json_forms import Pairs, Raw, text_of
 
 if TYPE_CHECKING:
@@ -77,6 +77,8 @@ def malformed(random: Random) -> bytes:
         calls = canvases.canvases(random)[1][:length]
     else:
         calls = grouping.groups(random)[1][:length] if kind == "bound" else worlds.mixed(random, length)
+    if random.random() < 0.15:
+        labels.put(random, [calls])
     top = {"budget": random.choice([0, 1, 1000000, WHOLE_LIMIT]), "phases": [[calls]], **({} if asked is None else {"limits": asked})}
     for _ in range(random.choice([1, 1, 1, 2, 2, 3])):
         top = random.choices([of_call, of_names, of_top, of_limits, same], [14, 5, 2, 2, 1] if has_objects else [10, 6, 3, 3, 1])[0](
@@ -135,8 +137,8 @@ def of_call(random: Random, top: Any, calls: list[Any]) -> Any:
     if at is not None:
         call = dict(calls[at])
         calls[at] = call
-        if random.random() < 0.18:
-            calls[at] = random.choice([automatic, sliced])(random, call)
+        if random.random() < 0.35:
+            calls[at] = random.choices([automatic, sliced, labeled, based], [2, 2, 4, 2])[0](random, call)
             return top
         if random.random() < 0.8 and spoil_object(random, call):
             return top
@@ -318,6 +320,21 @@ def mapped(random: Random, call: Any) -> dict[str, Any]:
     made = {"do": "createBuffer", "size": 4, "usage": 8, "as": "m", "mapped": random.choice(values)}
     more: list[dict[str, Any]] = [{}, {"x": 1}, {"size": None}, {"usage": -1}, {"do": "createView"}]
     return {**made, **random.choice(more)}
+
+
+def labeled(random: Random, call: Any) -> dict[str, Any]:
+    """A call with a label, faulty or at the edge: one that may have it as a rule."""
+    others: list[dict[str, Any]] = [{"do": "createEncoder", "as": "m"}, {"do": "pushDebugGroup", "on": "e"}, {"do": "finish", "on": "e"}]
+    made = random.choice(others) if call.get("do") not in labels.LABELED and random.random() < 0.8 else call
+    return {**made, "label": random.choice([labels.faulty, labels.faulty, labels.at_the_edge, labels.good])(random)}
+
+
+def based(random: Random, call: Any) -> dict[str, Any]:
+    """An indexed draw, or one of another kind, with a base vertex that may stand there or not."""
+    made: dict[str, Any] = {"do": "drawIndexed", "on": call.get("on", "p"), "indices": 3}
+    base = random.choice([0, 1, WORD_LIMIT, WORD_LIMIT, WORD_LIMIT + 1, WORD_LIMIT + 1, WHOLE_LIMIT, -1, Raw(random.choice(NUMBERS)), None])
+    more: list[dict[str, Any]] = [{}, {}, {}, {}, {"firstIndex": -1}, {"x": 1}, {"do": "draw", "vertices": 3}, {"baseVertex ": 0}]
+    return {**made, "baseVertex": base, **random.choice(more)}
 
 
 def automatic(random: Random, call: Any) -> dict[str, Any]:

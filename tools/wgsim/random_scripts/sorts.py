@@ -5,11 +5,13 @@ from __future__ import annotations
 import random
 from typing import Any
 
-from . import canvases, grouping, holding, json_forms, lanes, limiting, losses, malformed, passing, pieces, spoiled, worlds
+from . import canvases, grouping, holding, json_forms, labels, lanes, limiting, losses, malformed, passing, pieces, spoiled, worlds
 
 # Those of which others are made: good scripts of one lane or several, though single calls of them have faults.
 GOOD = ["borders", "mixed", "holders", "groups", "passes", "rendering", "queries", "bundles", "canvases", "lanes"]
 MOST = 2**53 - 1
+# How many scripts have labels.
+LABELED = 0.15
 
 
 def text_of(top: dict[str, Any], chance: random.Random) -> bytes:
@@ -32,6 +34,14 @@ def script_of(chance: random.Random, sort: str) -> bytes:
 
 def good(chance: random.Random, sort: str) -> dict[str, Any]:
     """A script of a sort that has a form, as what its text is made of."""
+    top = unlabeled(chance, sort)
+    if chance.random() < LABELED:
+        labels.put(chance, lanes.lists_in(top["phases"]))
+    return top
+
+
+def unlabeled(chance: random.Random, sort: str) -> dict[str, Any]:
+    """The same without labels."""
     asked = limiting.ask(chance, 0.3)
     limits = {} if asked is None else {"limits": asked}
     if sort in ("lanes", "malformed lanes"):

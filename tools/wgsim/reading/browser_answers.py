@@ -14,6 +14,8 @@ if TYPE_CHECKING:
     from wgsim.reading.script import Call, Script
 
 ANSWERS, CALLS = ".answers.json", ".calls.json"
+# A name with its label, if it has one, and its place in the script.
+NAMED = re.compile(r'"(\w+)"(?: "(?:[^"\\]|\\.)*")? \(\d+:\d+\)')
 
 
 class Answer(TypedDict, total=False):
@@ -114,7 +116,7 @@ class Pages:
 
     def made(self, words: str, script: Script) -> list[str]:
         """Where in the page the objects come from that some words name with their places in the script, in lines."""
-        makers = [(name, script.maker_of(name)) for name in dict.fromkeys(re.findall(r'"(\w+)" \(\d+:\d+\)', words))]
+        makers = [(name, script.maker_of(name)) for name in dict.fromkeys(NAMED.findall(words))]
         return [f'in the page "{name}" comes from {self.at(call)}' for name, call in makers if call is not None and self.at(call)]
 
 

@@ -20,6 +20,7 @@ ENCODERS = {call["ends"] for call in CALLS.values() if "ends" in call}
 OBJECTS = TABLE["objects"]
 FORMS = TABLE["forms"]
 AUTO = "auto"
+MOST_LABEL = 256
 
 
 class Key:
@@ -73,10 +74,22 @@ class Key:
             )
         if self.sort == "new":
             return "a new name, of 1 to 64 letters, digits and _"
+        if self.sort == "label":
+            return f"a string of at most {MOST_LABEL} bytes in UTF-8, with no character below 32 and none that is 127"
         return "a value"
 
     def or_null(self) -> str:
         return ", or null" if self.may_have_null else ""
+
+
+def is_long(label: str) -> bool:
+    """Whether a label has more bytes than one may."""
+    return len(label.encode()) > MOST_LABEL
+
+
+def control_in(label: str) -> int | None:
+    """The first character of a label that may not stand in one, by its number, or None."""
+    return next((ord(letter) for letter in label if letter < " " or letter == "\x7f"), None)
 
 
 def quoted(words: Iterable[str]) -> str:

@@ -29,6 +29,8 @@ class Rule:
 
 
 RULES = [Rule(call, row) for part in TABLE["parts"] if "calls" in part for call in part["calls"] for row in call["rules"]]
+# What a rule asks in words of its own, where calls have several sentences of it, or one that goes by another.
+ALONE = {row["rule"]: row["asks"] for row in TABLE["alone"]}
 
 
 def of(number: int, call: str | None = None) -> list[Rule]:
@@ -49,6 +51,21 @@ def completed(rule: Rule, whole: Rule) -> Rule:
     made.asks = whole.asks + rule.asks[len(ABOVE) :]
     made.sections, made.see = whole.own_sections or rule.sections, whole.see
     return made
+
+
+def numbers() -> list[int]:
+    """The numbers of all rules of a device, in order."""
+    return sorted({number for rule in RULES for number in rule.numbers})
+
+
+def sentence_of(number: int) -> str:
+    """What a rule asks, for one who knows its number and not the call."""
+    return ALONE.get(number) or of(number)[0].asks
+
+
+def sections_of(number: int) -> list[str]:
+    """The sections of the standard that have a rule, of all calls that test it."""
+    return list(dict.fromkeys(each for rule in of(number) for each in rule.sections))
 
 
 def section(rule: Rule) -> str:

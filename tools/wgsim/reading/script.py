@@ -3,6 +3,7 @@ bundle."""
 
 from __future__ import annotations
 
+import json
 from typing import TYPE_CHECKING, Any
 
 from wgsim.reading import calls, frames
@@ -33,6 +34,13 @@ class Call:
         if calls.canvas(self.word) is not None:
             return self.frame.event_of(self) if self.frame is not None else None
         return "late" if self.is_late else None if calls.records(self.word) else self.word
+
+    @property
+    def label(self) -> str:
+        """The label as it stands behind a name: a string of JSON in printable ASCII, after a space. Nothing where it is left out or
+        empty."""
+        label = string_of(self.value, "label")
+        return f" {json.dumps(label)}" if label else ""
 
     def names(self) -> list[tuple[str, Value]]:
         """The names that the call uses, in the order of its table's keys: pairs of key and name."""
@@ -192,6 +200,11 @@ class Script:
         """The call that made what a name stands for, or None: of each name of a frame of a canvas the first currentTexture of it."""
         call = self.made.get(name)
         return call.frame.calls[0] if call is not None and call.frame is not None else call
+
+    def labeled(self, name: str | None) -> str:
+        """A name, and behind it the label of the call that gave it, where that has one."""
+        call = self.made.get(name)
+        return f"{name}{call.label if call is not None else ''}"
 
     def where(self, call: Call) -> str:
         return self.text.where(call.value.start)

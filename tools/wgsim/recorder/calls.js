@@ -143,7 +143,7 @@ const RECORDING = {
     { call: { do: 'clearBuffer', on: nameOf(recording, on), buffer: nameOf(recording, buffer), offset: optional(offset), size: optional(size) } }),
   'GPUCommandEncoder.resolveQuerySet': (recording, on, queries, first, count, buffer, offset) => (
     { call: { do: 'resolveQuerySet', on: nameOf(recording, on), queries: nameOf(recording, queries), first: int(first), count: int(count), buffer: nameOf(recording, buffer), offset: int(offset) } }),
-  '*.pushDebugGroup': (recording, on) => ({ call: { do: 'pushDebugGroup', on: nameOf(recording, on) } }),
+  '*.pushDebugGroup': (recording, on, given) => ({ call: { do: 'pushDebugGroup', on: nameOf(recording, on), label: label(given) } }),
   '*.popDebugGroup': (recording, on) => ({ call: { do: 'popDebugGroup', on: nameOf(recording, on) } }),
   '*.end': (recording, on) => ({ ends: on, call: { do: 'end', on: nameOf(recording, on) } }),
 };
@@ -168,9 +168,10 @@ const DRAWING = {
   '*.dispatchWorkgroupsIndirect': (recording, on, buffer, offset) => drawing(recording, on, { do: 'dispatchIndirect', buffer: nameOf(recording, buffer), offset: int(offset) }),
   '*.draw': (recording, on, vertices, instances, first, firstInstance) => (
     drawing(recording, on, { do: 'draw', vertices: int(vertices), instances: optional(instances), firstVertex: optional(first), firstInstance: optional(firstInstance) })),
+  // A number below 0 is said modulo 2^32.
   '*.drawIndexed'(recording, on, indices, instances, first, base, firstInstance) {
-    if (base) recording.leave('drawIndexed.baseVertex');
-    return drawing(recording, on, { do: 'drawIndexed', indices: int(indices), instances: optional(instances), firstIndex: optional(first), firstInstance: optional(firstInstance) });
+    const more = { firstInstance: optional(firstInstance), baseVertex: base === undefined ? undefined : int(base) >>> 0 };
+    return drawing(recording, on, { do: 'drawIndexed', indices: int(indices), instances: optional(instances), firstIndex: optional(first), ...more });
   },
   '*.drawIndirect': (recording, on, buffer, offset) => drawing(recording, on, { do: 'drawIndirect', buffer: nameOf(recording, buffer), offset: int(offset) }),
   '*.drawIndexedIndirect': (recording, on, buffer, offset) => drawing(recording, on, { do: 'drawIndexedIndirect', buffer: nameOf(recording, buffer), offset: int(offset) }),

@@ -13,6 +13,18 @@ function origin(place) {
   const list = isList(place) ? [...place] : [place.x, place.y, place.z];
   return [0, 1, 2].map(at => list[at] === undefined ? 0 : int(list[at]));
 }
+// What a script may have of a label: as many bytes in UTF-8 as it may, up to the end of a character, with a space for each that may not stand
+// in one. An empty one says nothing. Half a pair of surrogates is what Web IDL makes of it.
+function label(given) {
+  let said = '', bytes = 0;
+  for (const letter of given === undefined ? '' : String(given)) {
+    const code = letter.codePointAt(0);
+    bytes += code < 0x80 ? 1 : code < 0x800 ? 2 : code < 0x10000 ? 3 : 4;
+    if (bytes > TABLES.mostLabel) break;
+    said += code < 32 || code === 127 ? ' ' : code >= 0xd800 && code < 0xe000 ? '\ufffd' : letter;
+  }
+  return said || undefined;
+}
 // A call without the keys that were not given.
 function slim(call) {
   for (const key in call) if (call[key] === undefined) delete call[key];

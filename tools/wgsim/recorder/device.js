@@ -22,14 +22,14 @@ const kindOf = error => error instanceof GPUValidationError ? 'validation' : err
 const DEEPEST = 3;
 let here = null;
 
-// How many bytes a call takes in a script at most; a list that is too long for one takes too many.
+// How many bytes a call takes in a script at most, where a unit of a label takes up to three; a list that is too long for one takes too many.
 function bytesOf(call) {
   let bytes = 4;
   for (const key in call) {
     const value = call[key];
     bytes += key.length + 6;
     if (typeof value === 'number') bytes += 17;
-    else if (typeof value === 'string') bytes += value.length + 2;
+    else if (typeof value === 'string') bytes += value.length * (key === 'label' ? 3 : 1) + 2;
     else bytes += Array.isArray(value) && value.length > MAX_ITEMS ? MAX_BYTES : JSON.stringify(value).length * 2;
   }
   return bytes;

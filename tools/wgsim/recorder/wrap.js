@@ -25,9 +25,15 @@ function perform(recording, on, method, act, args, make) {
   recording.leftNow = [];
   let plan = {};
   if (!recording.ended) {
-    try { plan = make(recording, on, ...args); } catch (error) { plan = { outside: error instanceof Outside ? error : new Outside('unread', String(error)) }; }
+    try { plan = labeled(make(recording, on, ...args), args[0]); } catch (error) { plan = { outside: error instanceof Outside ? error : new Outside('unread', String(error)) }; }
   }
   return plan.call ? recorded(recording, on, act, plan) : passedOver(recording, on, method, act, plan.outside);
+}
+
+// What makes something has the label of its descriptor, which comes first of what it is given.
+function labeled(plan, described) {
+  if (plan.as && Object(described) === described) plan.call.label = label(described.label);
+  return plan;
 }
 
 // A call that the script does not have: after the end, or since a script cannot say it. What it makes is outside too.

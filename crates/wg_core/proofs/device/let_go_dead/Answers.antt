@@ -11,4 +11,5 @@ loop-preserved c = record {
   gone = lets_then c.args.state.now.gone c.loop.state.gone c.let_one_go.new.state.gone c.loop.invariant.gone c.let_one_go.ensures.gone;
   tracked = c.let_one_go.ensures.stands (steps_of (Trace c.args.state.now.setup c.args.state.now.history)) c.loop.invariant.tracked;
   rows = c.let_one_go.ensures.rows;
+  handed = c.let_one_go.ensures.handed ∙ c.loop.invariant.handed;
 }

@@ -9,4 +9,5 @@ invariant-loop l = record {
   gone : LetsMoreGo l.initial.state.gone l.state.gone;
   tracked : IsTracked l.initial.state.setup l.initial.state.history l.tracker;
   rows : HasRowsOf l.state.history l.state.gone l.tracker;
+  handed : l.spent.handed ≡ l.initial.spent.handed;
 }
