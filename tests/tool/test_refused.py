@@ -94,7 +94,7 @@ REFUSED = [
     (
         'L{"do":"createComputePipeline","layout":"auto","as":"p","x":1}',
         "S:2:57",
-        "no such key: createComputePipeline has the keys layout, iface (may be left out), as",
+        "no such key: createComputePipeline has the keys layout, iface (may be left out), label (may be left out), as",
     ),
     ('L{"do":"createComputePipeline","layout":"autos","as":"p"}', "S:2:41", 'the nearest is "auto"'),
     ('L{"do":"createComputePipeline","layout":7,"as":"p"}', "S:2:41", 'the name of a pipeline layout, or the word "auto"'),
@@ -129,7 +129,11 @@ REFUSED = [
         "S:3:23",
         "the name of a compute pass",
     ),
-    ('L{"do":"createQuerySet","type":"occlusion","count":1,"as":"q"}', "S:2:25", "no such key: createQuerySet has the keys count, as"),
+    (
+        'L{"do":"createQuerySet","type":"occlusion","count":1,"as":"q"}',
+        "S:2:25",
+        "no such key: createQuerySet has the keys count, label (may be left out), as",
+    ),
     ('L{"do":"createQuerySet","count":4294967296,"as":"q"}', "S:2:33", "4294967296 under count"),
     ('L{"do":"drop"}', "S:2:2", "the key object"),
     ('L{"do":"drop","object":"b"}', "S:2:24", "a view or a sampler or a bind group layout or"),
