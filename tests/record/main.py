@@ -280,7 +280,7 @@ def test_stand_ins(folder):
 # A page whose objects have labels, each with what a script may have of it.
 LABELS = """<script type="module">
 const device = await (await navigator.gpu.requestAdapter()).requestDevice({{ label: 'device' }});
-const buffer = label => device.createBuffer({{ size: 16, usage: 40, label }});
+const buffer = label => device.createBuffer({{ size: 16, usage: 24, label }});
 for (const label of [{labels}]) buffer(label);
 const texture = device.createTexture({{ size: [4, 4], format: 'rgba8unorm', usage: 16, label: 'texture' }});
 const view = texture.createView({{ label: 'view' }});
@@ -341,7 +341,8 @@ def test_labels(folder):
     check(drawn == [None, 0, 5, 2**32 - 1, 2**31, 2**31 - 1], f"base vertices: {drawn}")
     check("left out" not in wgsim("judge", folder / "out", status=1)[0], "judge says that labels or base vertices are left out")
     told = wgsim("explain", script)[0]
-    check('"p1" "drawing" (' in told, f"explain of a page with labels does not tell them: {told}")
+    words = 'no pipeline is set on "p1" "drawing" ('
+    check(words in told, f"explain of a page with labels does not say `{words}`: {told[:2000]}")
 
 
 def test_mistakes(folder):
