@@ -2,4 +2,3 @@ pub mod Begun
 pub mod Infos
 pub mod Genuine
 pub mod Owners
-pub mod Judged

@@ -92,7 +92,6 @@ pub fn check(command: &Command) -> Option<u16>
         | Command::BeginRenderPass { .. }
         | Command::PushDebugGroup
         | Command::PopDebugGroup
-        | Command::InsertDebugMarker
         | Command::End
         | Command::SetPipeline { .. }
         | Command::SetBindGroup { .. }
@@ -106,10 +105,6 @@ pub fn check(command: &Command) -> Option<u16>
         | Command::DrawIndexedIndirect { .. }
         | Command::BeginOcclusionQuery { .. }
         | Command::EndOcclusionQuery
-        | Command::ExecuteBundles { .. }
-        | Command::SetViewport { .. }
-        | Command::SetScissorRect { .. }
-        | Command::SetBlendConstant
-        | Command::SetStencilReference => return None,
+        | Command::ExecuteBundles { .. } => return None,
     }
 }

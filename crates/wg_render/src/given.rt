@@ -6,9 +6,8 @@ use wg_formats::size_or_rest;
 use wg_types::commands::Command;
 use wg_types::vertex::IndexFormat;
 
-/// The slot for which a command sets a range as a vertex buffer, with the size of that, or with none where it
-/// unsets what is set there.
-pub fn vertex_given(command: &Command) -> Option<(u32, Option<u64>)>
+/// The slot and the size of the range that a command sets as a vertex buffer, if it sets one.
+pub fn vertex_given(command: &Command) -> Option<(u32, u64)>
     ensures { result ≡ vertex_given command.now }
 {
     match command {
@@ -17,10 +16,7 @@ pub fn vertex_given(command: &Command) -> Option<(u32, Option<u64>)>
             buffer,
             offset,
             size,
-        } => match buffer {
-            Some(buffer) => Some((*slot, Some(size_or_rest(buffer, *offset, *size)))),
-            None => Some((*slot, None)),
-        },
+        } => Some((*slot, size_or_rest(buffer, *offset, *size))),
         _ => None,
     }
 }

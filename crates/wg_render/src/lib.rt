@@ -11,7 +11,6 @@ mod queries;
 mod state;
 mod targets;
 mod touches;
-mod viewports;
 mod views;
 
 pub use attachments::check_begin;

@@ -16,4 +16,3 @@ pub mod Known
 pub mod Standing
 pub mod Naming
 pub mod Making
-pub mod Nulling

@@ -2,4 +2,3 @@ pub mod Reports
 pub mod Shaped
 pub mod Once
 pub mod Bundled
-pub mod Nulls

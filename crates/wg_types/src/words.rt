@@ -58,11 +58,6 @@ pub enum Word {
     DrawIndexed,
     DrawIndirect,
     DrawIndexedIndirect,
-    SetViewport,
-    SetScissorRect,
-    SetBlendConstant,
-    SetStencilReference,
-    InsertDebugMarker,
     CreateCanvas,
     ConfigureCanvas,
     CurrentTexture,
@@ -70,7 +65,7 @@ pub enum Word {
 }
 
 /// The calls that a script may name.
-const WORDS: [Word; 60] = [
+const WORDS: [Word; 55] = [
     Word::CreateBuffer,
     Word::CreateTexture,
     Word::CreateView,
@@ -122,11 +117,6 @@ const WORDS: [Word; 60] = [
     Word::DrawIndexed,
     Word::DrawIndirect,
     Word::DrawIndexedIndirect,
-    Word::SetViewport,
-    Word::SetScissorRect,
-    Word::SetBlendConstant,
-    Word::SetStencilReference,
-    Word::InsertDebugMarker,
     Word::CreateCanvas,
     Word::ConfigureCanvas,
     Word::CurrentTexture,
@@ -190,11 +180,6 @@ impl Word {
             Word::DrawIndexed => "drawIndexed",
             Word::DrawIndirect => "drawIndirect",
             Word::DrawIndexedIndirect => "drawIndexedIndirect",
-            Word::SetViewport => "setViewport",
-            Word::SetScissorRect => "setScissorRect",
-            Word::SetBlendConstant => "setBlendConstant",
-            Word::SetStencilReference => "setStencilReference",
-            Word::InsertDebugMarker => "insertDebugMarker",
             Word::CreateCanvas => "createCanvas",
             Word::ConfigureCanvas => "configureCanvas",
             Word::CurrentTexture => "currentTexture",

@@ -22,7 +22,6 @@ from . import (  # noqa: F401
     scopes,
     settings,
     textures,
-    viewports,
     views,
 )
 from .cases import Causes, of_report  # noqa: F401

@@ -30,11 +30,11 @@ def code(value: Any) -> str:
         return "[" + ", ".join(map(code, value)) + "]"
     if isinstance(value, str):
         return "'" + json.dumps(value)[1:-1].replace("'", "\\'").replace('\\"', '"') + "'"
-    return json.dumps(value)
+    return "undefined" if value is None else json.dumps(value)
 
 
 def items(args: list[Any]) -> str:
-    """Arguments, with null where one is null."""
+    """Arguments, those that were not given as `undefined`."""
     return ", ".join(code(arg) for arg in args)
 
 
