@@ -5,7 +5,8 @@
 
 /* ---- The lock, and what comes of a call ---- */
 
-/* An engine with threads takes a mutex here. This one has a single thread, and looks whether it would. */
+/* An engine with threads takes a mutex here, and gives it back once the items of the call are done. This one has a single thread, and looks
+ * that no call is made outside of it, or inside another call. */
 void engine_enter(engine *it) {
     if (it->is_held)
         broken("a call is made while another one runs");
@@ -61,7 +62,7 @@ static void compare_mapped(engine *it, const mapping *of) {
     it->tally.bytes += of->size;
 }
 
-/* Tells of the bytes of a mapped range that no step has set that they are zero. */
+/* Has the driver set the bytes of a mapped range to zero that no step has set. */
 static void zero_unset(engine *it, const mapping *of) {
     wethlorn_bytes unset = {of->from, of->from};
     uint32_t status;
@@ -129,6 +130,8 @@ void engine_leave(engine *it) {
 }
 
 uint64_t engine_made(engine *it, const char *word, uint32_t status) {
+    if (!it->is_held)
+        broken("%s was called without the lock", word);
     if (status != WETHLORN_OK)
         broken("%s was not made: status %" PRIu32, word, status);
     if (it->reply.fault)

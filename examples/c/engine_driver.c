@@ -3,6 +3,8 @@
 #include <stdlib.h>
 #include <string.h>
 
+enum { SELDOM = 32 };
+
 void driver_begin(driver *it, uint64_t seed, int forgets) {
     *it = (driver){.forgets = forgets, .dice = {.state = seed}, .memory = {.dice = {.state = ~seed}}};
 }
@@ -111,7 +113,7 @@ void driver_told(const driver *it, uint64_t operation) {
 }
 
 void driver_idle(driver *it) {
-    for (uint32_t left = dice_below(&it->dice, 3); left && it->waiting_count; left--) {
+    if (it->waiting_count && dice_one_in(&it->dice, SELDOM)) {
         step out = pulled(it, dice_below(&it->dice, (uint32_t)it->waiting_count));
         run(&out, &it->memory);
         end_step(&out);
@@ -227,14 +229,14 @@ static void do_step(driver *it, const wethlorn_item *item, const wethlorn_use *u
         told.does = command_of(it, item);
     if (is_clear && it->forgets == FORGETS_CLEARS) {
         end_step(&told);
-    } else if (!item->host && dice_one_in(&it->dice, 2)) {
-        keep(it, &told);
-    } else {
-        if (item->host)
-            do_on_host(it, item, &told);
-        else
-            run(&told, &it->memory);
+    } else if (item->host) {
+        do_on_host(it, item, &told);
         end_step(&told);
+    } else if (dice_one_in(&it->dice, 3)) {
+        run(&told, &it->memory);
+        end_step(&told);
+    } else {
+        keep(it, &told);
     }
 }
 

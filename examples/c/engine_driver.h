@@ -58,7 +58,7 @@ void driver_do(driver *it, const wethlorn_item *item, const wethlorn_use *uses, 
 /* Looks whether each command of the operation that was taken last was told as a step, but for those that make none. */
 void driver_told(const driver *it, uint64_t operation);
 
-/* Runs some of what waits, as a GPU does that has time. */
+/* Runs now and then something of what waits, as a GPU does that has time. */
 void driver_idle(driver *it);
 
 /* Runs all that waits of the operations up to one, which then are complete. */

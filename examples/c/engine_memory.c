@@ -215,11 +215,12 @@ static cached *cache_of(part *it, uint32_t usage) {
     return it->caches[place];
 }
 
-/* Reads through the cache of a usage. What is read brings the whole part into it, but for what is there already. */
+/* Reads through the cache of a usage. What is read brings the whole part into it, but for what is there already, if that was not lost. */
 static void get(memory *it, part *of, uint32_t usage, size_t from, size_t count, unsigned char *into) {
     cached *cache = cache_of(of, usage);
+    int is_lost = dice_one_in(&it->dice, 4);
     for (size_t at = 0; at < of->size; at++)
-        if (!cache[at].is_seen) {
+        if (is_lost || !cache[at].is_seen) {
             cache[at].seen = of->bytes[at];
             cache[at].is_seen = 1;
         }

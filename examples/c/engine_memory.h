@@ -3,9 +3,9 @@
  * The memory of a software driver is as bad as that of a GPU may be. Fresh memory is garbage, and so is what a step discards. Each usage
  * has a cache of its own. What a step writes is seen by no other step until a barrier from its usage; it may come to memory earlier, by
  * chance, and where two steps write a byte with no barrier between them chance says which of them it has. What was once read by a usage is
- * read from its cache again, old as it may be, until a barrier to that usage. A part of a texture has the layout that the last barrier gave
- * it: whoever reads or writes it by another usage finds, or leaves, garbage. A plain memory is that of the zeroed device: it has no caches
- * and no layouts, and what is fresh or discarded is zero. */
+ * read from its cache again, old as it may be, until a barrier to that usage, or until the cache has lost it. A part of a texture has the
+ * layout that the last barrier gave it: whoever reads or writes it by another usage finds, or leaves, garbage. A plain memory is that of
+ * the zeroed device: it has no caches and no layouts, and what is fresh or discarded is zero. */
 #ifndef WETHLORN_ENGINE_MEMORY_H
 #define WETHLORN_ENGINE_MEMORY_H
 #include "engine_base.h"

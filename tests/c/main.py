@@ -33,14 +33,8 @@ C, CXX = ["-std=c99", *WARNINGS], ["-std=c++17", *WARNINGS]
 C11 = ["-std=c11", *WARNINGS, "-Wpedantic", "-Wconversion"]
 NAMES_DROPPED = 4
 SECONDS = 600
-# Each allocation is refused on these, and valgrind plays them: a whole frame, a bundle with queries, what passes are set to and what is
-# null, and callers that race.
-CLOSELY = [
-    "examples/realistic-frame",
-    "tests/cases/bundles/bundle-and-occlusion-queries",
-    "tests/cases/script/every-key-of-states",
-    "examples/submit-races-destroy",
-]
+# Each allocation is refused on these, and valgrind plays them: a whole frame, a bundle with queries, and callers that race.
+CLOSELY = ["examples/realistic-frame", "tests/cases/bundles/bundle-and-occlusion-queries", "examples/submit-races-destroy"]
 CALLS_OF_THREADS = 40_000
 # The sources of the engine with a software driver, how many frames it runs, and what its driver can be told to leave out.
 ENGINE = sorted(EXAMPLES.glob("engine*.c"))
