@@ -16,7 +16,7 @@
  * the device that gave it is the caller's to see to. A caller has nothing to free but the device.
  *
  * Memory. Nothing is kept of a call. Of an object that was dropped, that nothing else holds and that was
- * released, if it is a resource, nothing is kept but some 200 bytes for 3,072 such objects behind an older one
+ * released, if it is a resource, nothing is kept but some 200 bytes for 4,096 such objects behind an older one
  * that stays (docs/costs.md has what was measured). An object that is not dropped is kept.
  *
  * Status. Each call returns a status. WETHLORN_OK: it was made, and `out` has the answer. Otherwise nothing

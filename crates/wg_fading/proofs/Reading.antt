@@ -86,8 +86,8 @@ none_replicate k i = elim (cases_lt i k) [
 ]
 
 -- a page that is filled up has what it had
-pub filled : (places : List ℕ) (k j : ℕ) → length places ≤ 64 → get_or (take 64 places ++ replicate k 4294967295) j 4294967295 ≡ get_or places j 4294967295
-filled places k j le = ap (λ (l : List ℕ). in_list (l ++ replicate k 4294967295) j) (take_all 64 places le) ∙ elim (cases_lt j (length places)) [
+pub filled : (places : List ℕ) (k j : ℕ) → length places ≤ 128 → get_or (take 128 places ++ replicate k 4294967295) j 4294967295 ≡ get_or places j 4294967295
+filled places k j le = ap (λ (l : List ℕ). in_list (l ++ replicate k 4294967295) j) (take_all 128 places le) ∙ elim (cases_lt j (length places)) [
   | inl lt ↦ get_or_append_left places (replicate k 4294967295) 4294967295 j lt
   | inr past ↦ get_or-append_right places (replicate k 4294967295) (length places) j 4294967295 refl past ∙ (none_replicate k (j - length places) ∙ sym (get_or_past places j 4294967295 past))
 ]

@@ -32,7 +32,7 @@ page_has (Some page) j = has_in_page page.value j
 
 -- where those of a floor stand
 abbrev pub in_floor : Floor → ℕ → ℕ
-in_floor floor j = at_in 4294967295 page_place floor.pages.items (j / 64) (j % 64)
+in_floor floor j = at_in 4294967295 page_place floor.pages.items (j / 128) (j % 128)
 
 -- the same of a floor that may be none
 abbrev pub floor_place : Option (Box Floor Global) → ℕ → ℕ
@@ -41,7 +41,7 @@ floor_place (Some floor) j = in_floor floor.value j
 
 -- whether a floor has a slot
 abbrev pub has_in_floor : Floor → ℕ → Bool
-has_in_floor floor j = at_in false page_has floor.pages.items (j / 64) (j % 64)
+has_in_floor floor j = at_in false page_has floor.pages.items (j / 128) (j % 128)
 
 -- whether a floor that may be none has a slot
 abbrev pub floor_has : Option (Box Floor Global) → ℕ → Bool
@@ -50,7 +50,7 @@ floor_has (Some floor) j = has_in_floor floor.value j
 
 -- where number n stands by the floors behind those that were cut off in front
 abbrev pub spot : ℕ → List (Option (Box Floor Global)) → ℕ → ℕ
-spot first floors n = if nat_lt (n / 3072) first then 4294967295 else at_in 4294967295 floor_place floors (n / 3072 - first) (n % 3072)
+spot first floors n = if nat_lt (n / 4096) first then 4294967295 else at_in 4294967295 floor_place floors (n / 4096 - first) (n % 4096)
 
 -- where number n stands
 abbrev pub place_at : Places → ℕ → ℕ
@@ -58,8 +58,8 @@ place_at p n = spot p.first p.floors.items n
 
 -- There is a slot for number n.
 pub record HasSlot (p : Places) (n : ℕ) : Type 0 where
-  pub past : p.first ≤ n / 3072
-  pub slot : at_in false floor_has p.floors.items (n / 3072 - p.first) (n % 3072) ≡ true
+  pub past : p.first ≤ n / 4096
+  pub slot : at_in false floor_has p.floors.items (n / 4096 - p.first) (n % 4096) ≡ true
 
 -- There are slots for a run of numbers.
 abbrev pub HasSlots : Places → ℕ → ℕ → Type 0
@@ -67,5 +67,5 @@ HasSlots p from to = (n : ℕ) → from ≤ n → n < to → HasSlot p n
 
 -- Number n, which is the next one, is of one of the floors or of the next floor.
 pub record Reaches (p : Places) (n : ℕ) : Type 0 where
-  pub past : p.first ≤ n / 3072
-  pub to : n / 3072 ≤ p.first + length p.floors.items
+  pub past : p.first ≤ n / 4096
+  pub to : n / 4096 ≤ p.first + length p.floors.items

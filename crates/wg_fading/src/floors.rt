@@ -8,7 +8,7 @@ use std::alloc::Global;
 use wg_entry::NoMemory;
 
 /// So many pages are of a floor.
-pub const PAGES: usize = 48;
+pub const PAGES: usize = 32;
 
 /// Where each of a run of numbers stands, by the page. A page that was given back is none.
 #[derive(Drop)]
@@ -83,7 +83,7 @@ fn put_in(floor: &mut Floor, slot: usize, place: u32)
 pub fn fill(floor: &mut Option<Box<Floor>>, alloc: Global, page: usize) -> Result<(), NoMemory>
     ensures each { (j : ℕ) → floor_place floor.new j ≡ floor_place floor.old j }
     ensures kept { (j : ℕ) → floor_has floor.old j ≡ true → floor_has floor.new j ≡ true }
-    ensures whole { OnOk result ((j : ℕ) → j / 64 ≡ page → floor_has floor.new j ≡ true) }
+    ensures whole { OnOk result ((j : ℕ) → j / 128 ≡ page → floor_has floor.new j ≡ true) }
 {
     make(floor, alloc)?;
     let Some(floor) = floor else {
@@ -128,7 +128,7 @@ fn fill_in(floor: &mut Floor, alloc: Global, page: usize) -> Result<(), NoMemory
     requires { page < length floor.old.pages.items }
     ensures each { (j : ℕ) → in_floor floor.new j ≡ in_floor floor.old j }
     ensures kept { (j : ℕ) → has_in_floor floor.old j ≡ true → has_in_floor floor.new j ≡ true }
-    ensures whole { OnOk result ((j : ℕ) → j / 64 ≡ page → has_in_floor floor.new j ≡ true) }
+    ensures whole { OnOk result ((j : ℕ) → j / 128 ≡ page → has_in_floor floor.new j ≡ true) }
 {
     pages::fill(&mut floor.pages[page], alloc)?;
     Ok(())
@@ -139,7 +139,7 @@ fn fill_in(floor: &mut Floor, alloc: Global, page: usize) -> Result<(), NoMemory
 pub fn lose(floor: &mut Option<Box<Floor>>, slot: usize, next: usize)
     requires { floor_has floor.old slot ≡ true }
     ensures each { (j : ℕ) → floor_place floor.new j ≡ floor_place floor.old j }
-    ensures has { (j : ℕ) → next ≤ j → j < 3072 → floor_has floor.new j ≡ floor_has floor.old j }
+    ensures has { (j : ℕ) → next ≤ j → j < 4096 → floor_has floor.new j ≡ floor_has floor.old j }
 {
     if is_over(floor, slot, next) && next >= PAGES * PAGE {
         *floor = None;
@@ -180,7 +180,7 @@ fn lose_in(floor: &mut Floor, slot: usize, next: usize) -> bool
 
 /// Whether the page of a slot is past.
 fn is_page_past(slot: usize, next: usize) -> bool
-    ensures { next / 64 ≤ slot / 64 → result ≡ false }
+    ensures { next / 128 ≤ slot / 128 → result ≡ false }
 {
     slot / PAGE < next / PAGE
 }

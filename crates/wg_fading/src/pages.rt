@@ -6,7 +6,7 @@ use std::alloc::Global;
 use wg_entry::NoMemory;
 
 /// So many numbers have a page.
-pub const PAGE: usize = 64;
+pub const PAGE: usize = 128;
 
 /// The place of what is not kept.
 pub const GONE: u32 = 4294967295;
@@ -70,7 +70,7 @@ fn put_in(page: &mut Page, slot: usize, place: u32)
 pub fn fill(page: &mut Option<Box<Page>>, alloc: Global) -> Result<(), NoMemory>
     ensures each { (j : ℕ) → page_place page.new j ≡ page_place page.old j }
     ensures kept { (j : ℕ) → page_has page.old j ≡ true → page_has page.new j ≡ true }
-    ensures whole { OnOk result ((j : ℕ) → j < 64 → page_has page.new j ≡ true) }
+    ensures whole { OnOk result ((j : ℕ) → j < 128 → page_has page.new j ≡ true) }
 {
     make(page, alloc)?;
     let Some(page) = page else {
@@ -100,7 +100,7 @@ fn make(page: &mut Option<Box<Page>>, alloc: Global) -> Result<(), NoMemory>
 fn fill_in(page: &mut Page) -> Result<(), NoMemory>
     ensures each { (j : ℕ) → in_page page.new j ≡ in_page page.old j }
     ensures kept { (j : ℕ) → has_in_page page.old j ≡ true → has_in_page page.new j ≡ true }
-    ensures whole { OnOk result ((j : ℕ) → j < 64 → has_in_page page.new j ≡ true) }
+    ensures whole { OnOk result ((j : ℕ) → j < 128 → has_in_page page.new j ≡ true) }
 {
     if page.places.len() < PAGE {
         page.places.resize(PAGE, GONE)?;

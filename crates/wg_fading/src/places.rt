@@ -13,7 +13,7 @@ use std::collections::VecDeque;
 use wg_entry::NoMemory;
 
 /// So many numbers have a floor.
-const FLOOR: u64 = 3072;
+const FLOOR: u64 = 4096;
 
 /// Where each number stands, by the floor. A floor that was given back is none; such floors in front are cut off.
 #[derive(Drop)]
@@ -90,13 +90,13 @@ impl Places {
 
     /// Makes the slots of a page that is of one of the floors or of the next floor.
     fn fill(&mut self, alloc: Global, page: u64) -> Result<(), NoMemory>
-        requires { Reaches self.old (page * 64) }
+        requires { Reaches self.old (page * 128) }
         ensures each { (m : ℕ) → place_at self.new m ≡ place_at self.old m }
         ensures first { self.new.first ≡ self.old.first }
         ensures len { length self.old.floors.items ≤ length self.new.floors.items }
         ensures kept { (n : ℕ) → HasSlot self.old n → HasSlot self.new n }
-        ensures slots { OnOk result ((n : ℕ) → n / 64 ≡ page → HasSlot self.new n) }
-        ensures reach { OnOk result (Reaches self.new (page * 64 + 64)) }
+        ensures slots { OnOk result ((n : ℕ) → n / 128 ≡ page → HasSlot self.new n) }
+        ensures reach { OnOk result (Reaches self.new (page * 128 + 128)) }
     {
         let floor = (page / PAGES as u64 - self.first) as usize;
         if floor == self.floors.len() {
@@ -121,14 +121,14 @@ impl Places {
 
     /// Makes the slots of a page in its floor.
     fn fill_in(&mut self, floor: usize, alloc: Global, page: u64) -> Result<(), NoMemory>
-        requires past { self.old.first ≤ page / 48 }
-        requires is { floor ≡ page / 48 - self.old.first }
+        requires past { self.old.first ≤ page / 32 }
+        requires is { floor ≡ page / 32 - self.old.first }
         requires inside { floor < length self.old.floors.items }
         ensures each { (m : ℕ) → place_at self.new m ≡ place_at self.old m }
         ensures first { self.new.first ≡ self.old.first }
         ensures len { length self.new.floors.items ≡ length self.old.floors.items }
         ensures kept { (n : ℕ) → HasSlot self.old n → HasSlot self.new n }
-        ensures slots { OnOk result ((n : ℕ) → n / 64 ≡ page → HasSlot self.new n) }
+        ensures slots { OnOk result ((n : ℕ) → n / 128 ≡ page → HasSlot self.new n) }
     {
         let page = (page % PAGES as u64) as usize;
         floors::fill(&mut self.floors[floor], alloc, page)?;

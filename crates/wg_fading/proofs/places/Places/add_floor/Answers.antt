@@ -11,5 +11,5 @@ returns-clause-each c = λ m. rw (c.push_back_reserved.ensures.items, c.reserve.
 pub returns-clause-kept : goal.returns-clause-kept
 returns-clause-kept c = λ n had. record {
   past = had.past;
-  slot = rw (c.push_back_reserved.ensures.items, c.reserve.ensures.items) (at_more false floor_has c.args.self.now.floors.items (n / 3072 - c.args.self.now.first) None (n % 3072) refl ∙ had.slot);
+  slot = rw (c.push_back_reserved.ensures.items, c.reserve.ensures.items) (at_more false floor_has c.args.self.now.floors.items (n / 4096 - c.args.self.now.first) None (n % 4096) refl ∙ had.slot);
 }

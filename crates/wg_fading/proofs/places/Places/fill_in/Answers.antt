@@ -19,7 +19,7 @@ returns-clause-kept c = λ n had.
     let p = c.args.self.now in
     record {
       past = had.past;
-      slot = at_keeps floor_has p.floors.items c.args.floor (n / 3072 - p.first) c.index_mut.result.now c.fill.new.floor (n % 3072) c.requires.inside c.index_mut.ensures.value (λ here. c.fill.ensures.kept (n % 3072)) had.slot;
+      slot = at_keeps floor_has p.floors.items c.args.floor (n / 4096 - p.first) c.index_mut.result.now c.fill.new.floor (n % 4096) c.requires.inside c.index_mut.ensures.value (λ here. c.fill.ensures.kept (n % 4096)) had.slot;
     }
 
 pub returns-in_err-fill-clause-kept : goal.returns-in_err-fill-clause-kept
@@ -27,15 +27,15 @@ returns-in_err-fill-clause-kept c = λ n had.
     let p = c.args.self.now in
     record {
       past = had.past;
-      slot = at_keeps floor_has p.floors.items c.args.floor (n / 3072 - p.first) c.index_mut.result.now c.fill.new.floor (n % 3072) c.requires.inside c.index_mut.ensures.value (λ here. c.fill.ensures.kept (n % 3072)) had.slot;
+      slot = at_keeps floor_has p.floors.items c.args.floor (n / 4096 - p.first) c.index_mut.result.now c.fill.new.floor (n % 4096) c.requires.inside c.index_mut.ensures.value (λ here. c.fill.ensures.kept (n % 4096)) had.slot;
     }
 
 pub returns-clause-slots : goal.returns-clause-slots
 returns-clause-slots c = λ n here.
     let p = c.args.self.now in
     let past = c.requires.past in
-    let floor_is : n / 3072 - p.first ≡ c.args.floor = omega (arith, here, c.requires.is) in
+    let floor_is : n / 4096 - p.first ≡ c.args.floor = omega (arith, here, c.requires.is) in
     record {
       past = omega (arith, here, past);
-      slot = rw floor_is (at_set false floor_has p.floors.items c.args.floor c.fill.new.floor (n % 3072) c.requires.inside ∙ c.in_ok-fill.ensures.whole (n % 3072) (omega (arith, here)));
+      slot = rw floor_is (at_set false floor_has p.floors.items c.args.floor c.fill.new.floor (n % 4096) c.requires.inside ∙ c.in_ok-fill.ensures.whole (n % 4096) (omega (arith, here)));
     }

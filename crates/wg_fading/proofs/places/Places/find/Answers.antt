@@ -10,9 +10,9 @@ index-requires c = let within = slot_within c.args.self.now c.args.number c.requ
 pub find-requires : goal.find-requires
 find-requires c =
     let p = c.args.self.now in
-    sym (at_read false floor_has p.floors.items (c.args.number / 3072 - p.first) c.index.result.now (c.args.number % 3072) (slot_within p c.args.number c.requires) c.index.ensures) ∙ c.requires.slot
+    sym (at_read false floor_has p.floors.items (c.args.number / 4096 - p.first) c.index.result.now (c.args.number % 4096) (slot_within p c.args.number c.requires) c.index.ensures) ∙ c.requires.slot
 
 pub returns : goal.returns
 returns c =
     let p = c.args.self.now in
-    c.find.ensures ∙ (sym (at_read 4294967295 floor_place p.floors.items (c.args.number / 3072 - p.first) c.index.result.now (c.args.number % 3072) (slot_within p c.args.number c.requires) c.index.ensures) ∙ sym (spot_in p.first p.floors.items c.args.number c.requires.past))
+    c.find.ensures ∙ (sym (at_read 4294967295 floor_place p.floors.items (c.args.number / 4096 - p.first) c.index.result.now (c.args.number % 4096) (slot_within p c.args.number c.requires) c.index.ensures) ∙ sym (spot_in p.first p.floors.items c.args.number c.requires.past))

@@ -10,9 +10,9 @@ returns-then-floor-self c = let p = c.args.self.now in sym (spot_cut p.first p.f
 pub returns-then-floor-len : goal.returns-then-floor-len
 returns-then-floor-len c =
     let p = c.args.self.now in
-    sym (spot_in p.first p.floors.items c.args.number (omega arith) ∙ at_past 4294967295 floor_place p.floors.items (c.args.number / 3072 - p.first) (c.args.number % 3072) (omega arith))
+    sym (spot_in p.first p.floors.items c.args.number (omega arith) ∙ at_past 4294967295 floor_place p.floors.items (c.args.number / 4096 - p.first) (c.args.number % 4096) (omega arith))
 
 pub returns : goal.returns
 returns c =
     let p = c.args.self.now in
-    c.look.ensures ∙ (sym (at_read 4294967295 floor_place p.floors.items (c.args.number / 3072 - p.first) c.index.result.now (c.args.number % 3072) (omega arith) c.index.ensures) ∙ sym (spot_in p.first p.floors.items c.args.number (omega arith)))
+    c.look.ensures ∙ (sym (at_read 4294967295 floor_place p.floors.items (c.args.number / 4096 - p.first) c.index.result.now (c.args.number % 4096) (omega arith) c.index.ensures) ∙ sym (spot_in p.first p.floors.items c.args.number (omega arith)))

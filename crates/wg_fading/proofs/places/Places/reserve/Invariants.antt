@@ -8,8 +8,8 @@ invariant-loop-page l = record {
   first : l.self.first ≡ l.fn.self.first;
   len : length l.fn.self.floors.items ≤ length l.self.floors.items;
   kept : (n : ℕ) → HasSlot l.fn.self n → HasSlot l.self n;
-  slots : HasSlots l.self l.next (l.page * 64);
-  reach : Reaches l.self (l.page * 64);
+  slots : HasSlots l.self l.next (l.page * 128);
+  reach : Reaches l.self (l.page * 128);
 }
 
 abbrev pub decreases-loop-page : goal.decreases-loop-page
