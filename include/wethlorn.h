@@ -40,8 +40,10 @@
  * are told. What waits in the drains is the device's and not the call's: whoever drains does what others left.
  *
  * Values. An enumerated value that is left out is 0, and that is allowed where a comment says so. A flag is
- * 0 or 1. A number or an object that may be left out is WETHLORN_NONE. Whatever else is out of range, also a
- * number above 2^32 - 1 where one of 32 bits is asked for, has the status WETHLORN_BAD_VALUE.
+ * 0 or 1. A number or an object that may be left out, or that is null, is WETHLORN_NONE. Whatever else is out of
+ * range, also a number above 2^32 - 1 where one of 32 bits is asked for, has the status WETHLORN_BAD_VALUE. What no
+ * rule looks at is not given, as the data of a write, a label, a blend constant, a stencil reference, the base vertex
+ * of an indexed draw, or the color to which an attachment is cleared.
  *
  * Descriptors. Begin each with its WETHLORN_.._INIT and set what is asked for: the objects and sizes that are
  * left out are then WETHLORN_NONE, and all else is as WebGPU has it by default. A descriptor that is set to
@@ -77,6 +79,8 @@ typedef struct wethlorn_device {
 
 /* What is left out: a number, a size (which is then what remains) or an object. */
 #define WETHLORN_NONE UINT64_MAX
+/* What 1 is in the numbers of a viewport. */
+#define WETHLORN_FIXED_ONE UINT64_C(65536)
 /* As the pass on which a command stands: none, the command stands on the encoder or bundle encoder itself. */
 #define WETHLORN_ON_ENCODER UINT32_MAX
 
@@ -552,6 +556,16 @@ typedef struct wethlorn_depth {
     uint32_t depth_load, depth_store, depth_read_only, stencil_load, stencil_store, stencil_read_only;
 } wethlorn_depth;
 
+/* A viewport. It has no floats: each number stands for itself over WETHLORN_FIXED_ONE, so that this is one texel, or
+ * the depth 1. It begins `x` to the right of the left edge of what is attached, or where `left` is 1 to the left of
+ * it, and so `y` downwards, or where `above` is 1 upwards. A float of a page is given by the nearest such number, of
+ * two the even one; where that has more than 64 bits, and where a width, a height or a depth is below 0, by
+ * UINT64_MAX, which is out of range as they are. */
+typedef struct wethlorn_viewport {
+    uint64_t x, y, width, height, min_depth, max_depth;
+    uint32_t left, above;
+} wethlorn_viewport;
+
 /* How texels lie in bytes. bytes_per_row and rows_per_image may be WETHLORN_NONE. */
 typedef struct wethlorn_texel_layout {
     uint64_t offset, bytes_per_row, rows_per_image;
@@ -613,6 +627,7 @@ typedef struct wethlorn_texture_write {
 #define WETHLORN_BUNDLE_DESC_INIT {1, 0, 0, 0}
 #define WETHLORN_COLOR_INIT {WETHLORN_NONE, WETHLORN_NONE, WETHLORN_NONE, 0, 0}
 #define WETHLORN_DEPTH_INIT {WETHLORN_NONE, 0, 0, 0, 0, 0, 0}
+#define WETHLORN_VIEWPORT_INIT {0, 0, 0, 0, 0, WETHLORN_FIXED_ONE, 0, 0}
 #define WETHLORN_TEXEL_LAYOUT_INIT {0, WETHLORN_NONE, WETHLORN_NONE}
 #define WETHLORN_SPOT_INIT {WETHLORN_NONE, WETHLORN_ORIGIN_INIT, 0, WETHLORN_ASPECT_ALL}
 #define WETHLORN_BUFFER_COPY_INIT {WETHLORN_NONE, 0, WETHLORN_NONE, 0, 0}
@@ -685,9 +700,9 @@ uint32_t wethlorn_create_sampler(wethlorn_device *device, uint32_t kind, wethlor
 uint32_t wethlorn_create_bind_group_layout(wethlorn_device *device, const wethlorn_layout_entry *entries,
     size_t entries_count, wethlorn_reply *out);
 
-/* Makes a pipeline layout of bind group layouts (createPipelineLayout). Status: OK, NO_MEMORY, NO_OBJECT,
- * CLOSED. Owner: the device keeps what it makes; the arguments stay the caller's. Thread: any, one at a
- * time, under the caller's lock. */
+/* Makes a pipeline layout of bind group layouts (createPipelineLayout), of which each may be WETHLORN_NONE: null,
+ * which asks for no binding. Status: OK, NO_MEMORY, NO_OBJECT, CLOSED. Owner: the device keeps what it makes; the
+ * arguments stay the caller's. Thread: any, one at a time, under the caller's lock. */
 uint32_t wethlorn_create_pipeline_layout(wethlorn_device *device, const uint64_t *layouts,
     size_t layouts_count, wethlorn_reply *out);
 
@@ -816,11 +831,12 @@ uint32_t wethlorn_lose(wethlorn_device *device, wethlorn_reply *out);
 uint32_t wethlorn_begin_compute_pass(wethlorn_device *device, uint64_t encoder, wethlorn_reply *out);
 
 /* Begins a render pass (beginRenderPass); `out->pass` is its number. `colors` stand by slot. `queries` is
- * the query set of its occlusion queries, or WETHLORN_NONE. Status: OK, NO_MEMORY, NO_OBJECT, CLOSED,
- * BAD_VALUE. Owner: the device keeps what it makes; the arguments stay the caller's. Thread: any, one at a
- * time, under the caller's lock. */
+ * the query set of its occlusion queries, or WETHLORN_NONE. `max_draws` is how often it may draw, with the draws of
+ * the bundles that it executes (maxDrawCount), or WETHLORN_NONE, which asks nothing: a page that does not say it has
+ * 50,000,000. Status: OK, NO_MEMORY, NO_OBJECT, CLOSED, BAD_VALUE. Owner: the device keeps what it makes; the
+ * arguments stay the caller's. Thread: any, one at a time, under the caller's lock. */
 uint32_t wethlorn_begin_render_pass(wethlorn_device *device, uint64_t encoder, const wethlorn_color *colors,
-    size_t colors_count, const wethlorn_depth *depth, uint64_t queries, wethlorn_reply *out);
+    size_t colors_count, const wethlorn_depth *depth, uint64_t queries, uint64_t max_draws, wethlorn_reply *out);
 
 /* Ends a pass (end). Status: OK, NO_MEMORY, NO_OBJECT, CLOSED, NO_PASS. Owner: the arguments stay the
  * caller's. Thread: any, one at a time, under the caller's lock. */
@@ -835,6 +851,11 @@ uint32_t wethlorn_push_debug_group(wethlorn_device *device, uint64_t encoder, ui
 /* Closes the debug group that was opened last (popDebugGroup). Status: OK, NO_MEMORY, NO_OBJECT, CLOSED,
  * NO_PASS. Owner: the arguments stay the caller's. Thread: any, one at a time, under the caller's lock. */
 uint32_t wethlorn_pop_debug_group(wethlorn_device *device, uint64_t encoder, uint32_t pass,
+    wethlorn_reply *out);
+
+/* Marks a place of an encoder, a pass or a bundle encoder (insertDebugMarker). Status: OK, NO_MEMORY, NO_OBJECT,
+ * CLOSED, NO_PASS. Owner: the arguments stay the caller's. Thread: any, one at a time, under the caller's lock. */
+uint32_t wethlorn_insert_debug_marker(wethlorn_device *device, uint64_t encoder, uint32_t pass,
     wethlorn_reply *out);
 
 /* Records a copy of bytes (copyBufferToBuffer). Status: OK, NO_MEMORY, NO_OBJECT, CLOSED. Owner: the
@@ -876,9 +897,10 @@ uint32_t wethlorn_resolve_query_set(wethlorn_device *device, uint64_t encoder, u
 uint32_t wethlorn_set_pipeline(wethlorn_device *device, uint64_t encoder, uint32_t pass, uint64_t pipeline,
     wethlorn_reply *out);
 
-/* Sets a bind group of a pass or a bundle (setBindGroup), with an offset for each of its dynamic buffers.
- * Status: OK, NO_MEMORY, NO_OBJECT, CLOSED, NO_PASS. Owner: the arguments stay the caller's. Thread: any,
- * one at a time, under the caller's lock. */
+/* Sets a bind group of a pass or a bundle (setBindGroup), with an offset for each of its dynamic buffers. `group`
+ * may be WETHLORN_NONE: null, which unsets the group that is set there, and takes no offset. Status: OK, NO_MEMORY,
+ * NO_OBJECT, CLOSED, NO_PASS. Owner: the arguments stay the caller's. Thread: any, one at a time, under the
+ * caller's lock. */
 uint32_t wethlorn_set_bind_group(wethlorn_device *device, uint64_t encoder, uint32_t pass, uint32_t index,
     uint64_t group, const uint32_t *offsets, size_t offsets_count, wethlorn_reply *out);
 
@@ -893,9 +915,10 @@ uint32_t wethlorn_dispatch(wethlorn_device *device, uint64_t encoder, uint32_t p
 uint32_t wethlorn_dispatch_indirect(wethlorn_device *device, uint64_t encoder, uint32_t pass,
     uint64_t buffer, uint64_t offset, wethlorn_reply *out);
 
-/* Sets a vertex buffer (setVertexBuffer). `size` may be WETHLORN_NONE. Status: OK, NO_MEMORY, NO_OBJECT,
- * CLOSED, NO_PASS. Owner: the arguments stay the caller's. Thread: any, one at a time, under the caller's
- * lock. */
+/* Sets a vertex buffer (setVertexBuffer). `size` may be WETHLORN_NONE. `buffer` may be WETHLORN_NONE: null, which
+ * unsets the buffer that is set there, and whose offset and size are 0, also where the size is WETHLORN_NONE.
+ * Status: OK, NO_MEMORY, NO_OBJECT, CLOSED, NO_PASS. Owner: the arguments stay the caller's. Thread: any, one at a
+ * time, under the caller's lock. */
 uint32_t wethlorn_set_vertex_buffer(wethlorn_device *device, uint64_t encoder, uint32_t pass, uint32_t slot,
     uint64_t buffer, uint64_t offset, uint64_t size, wethlorn_reply *out);
 
@@ -925,6 +948,28 @@ uint32_t wethlorn_draw_indirect(wethlorn_device *device, uint64_t encoder, uint3
  * the caller's lock. */
 uint32_t wethlorn_draw_indexed_indirect(wethlorn_device *device, uint64_t encoder, uint32_t pass,
     uint64_t buffer, uint64_t offset, wethlorn_reply *out);
+
+/* Sets the viewport of a render pass (setViewport). Status: OK, NO_MEMORY, NO_OBJECT, CLOSED, NO_PASS, BAD_VALUE.
+ * Owner: the arguments stay the caller's. Thread: any, one at a time, under the caller's lock. */
+uint32_t wethlorn_set_viewport(wethlorn_device *device, uint64_t encoder, uint32_t pass,
+    const wethlorn_viewport *viewport, wethlorn_reply *out);
+
+/* Sets the scissor rectangle of a render pass (setScissorRect), in texels. Status: OK, NO_MEMORY, NO_OBJECT, CLOSED,
+ * NO_PASS. Owner: the arguments stay the caller's. Thread: any, one at a time, under the caller's lock. */
+uint32_t wethlorn_set_scissor_rect(wethlorn_device *device, uint64_t encoder, uint32_t pass, uint32_t x,
+    uint32_t y, uint32_t width, uint32_t height, wethlorn_reply *out);
+
+/* Sets the blend constant of a render pass (setBlendConstant). The color is no matter of this call. Status: OK,
+ * NO_MEMORY, NO_OBJECT, CLOSED, NO_PASS. Owner: the arguments stay the caller's. Thread: any, one at a time, under
+ * the caller's lock. */
+uint32_t wethlorn_set_blend_constant(wethlorn_device *device, uint64_t encoder, uint32_t pass,
+    wethlorn_reply *out);
+
+/* Sets the stencil reference of a render pass (setStencilReference). The reference is no matter of this call.
+ * Status: OK, NO_MEMORY, NO_OBJECT, CLOSED, NO_PASS. Owner: the arguments stay the caller's. Thread: any, one at a
+ * time, under the caller's lock. */
+uint32_t wethlorn_set_stencil_reference(wethlorn_device *device, uint64_t encoder, uint32_t pass,
+    wethlorn_reply *out);
 
 /* Begins an occlusion query (beginOcclusionQuery). Status: OK, NO_MEMORY, NO_OBJECT, CLOSED, NO_PASS.
  * Owner: the device keeps what it makes; the arguments stay the caller's. Thread: any, one at a time,

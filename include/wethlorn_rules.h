@@ -96,7 +96,7 @@ static inline const char *wethlorn_rule_text(uint32_t rule) {
                "and no more of `storage` and `read-only-storage` together than "
                "`maxDynamicStorageBuffersPerPipelineLayout`, whatever stages see them";
     case 140:
-        return "there are at most 4 layouts";
+        return "there are at most 4 layouts, those that are null counted too";
     case 141:
         return "no stage sees more in all layouts together than rule 136 allows; a layout that stands there twice "
                "counts twice";
@@ -306,24 +306,29 @@ static inline const char *wethlorn_rule_text(uint32_t rule) {
     case 325:
         return "the index is within the limit (below 4)";
     case 326:
-        return "there are as many offsets as the group's layout has dynamic entries";
+        return "there are as many offsets as the group's layout has dynamic entries, and none where the group is "
+               "null";
     case 327:
         return "each offset is a multiple of 256";
     case 328:
-        return "each range that the group binds fits its buffer, moved by its offset";
+        return "each range that the group binds fits its buffer, moved by its offset; a group that is null binds "
+               "none";
     case 330:
-        return "the buffer's usage has VERTEX";
+        return "the usage of the buffer, if it is not null, has VERTEX";
     case 331:
         return "the slot is within the limit (below 8)";
     case 332: case 345:
         return "the offset is a multiple of 4";
-    case 333: case 337:
+    case 333:
         return "offset and size fit the buffer; a size that is left out is what remains of the buffer from the "
-               "offset on; the size may be 0";
+               "offset on; the size may be 0; where the buffer is null both are 0, and a size that is left out is 0";
     case 335:
         return "the buffer's usage has INDEX";
     case 336:
         return "the offset is a multiple of 2 for uint16, and of 4 for uint32";
+    case 337:
+        return "offset and size fit the buffer; a size that is left out is what remains of the buffer from the "
+               "offset on; the size may be 0";
     case 340:
         return "a pipeline is set";
     case 341:
@@ -366,6 +371,19 @@ static inline const char *wethlorn_rule_text(uint32_t rule) {
     case 371:
         return "each bundle has `depthReadOnly` true where the pass has it true, and `stencilReadOnly` true where "
                "the pass has that true";
+    case 400:
+        return "width and height are at most `maxTextureDimension2D`";
+    case 401:
+        return "the viewport begins at most twice `maxTextureDimension2D` to the left of the left edge of what is "
+               "attached, and above its upper edge, and ends at most twice that, less 1, to the right of the left "
+               "edge, and below the upper edge";
+    case 402:
+        return "minDepth is at most maxDepth, and that at most 1";
+    case 403:
+        return "x and width together are at most the width of what is attached to the pass, and y and height at most "
+               "its height; 0 will do";
+    case 404:
+        return "on a render pass whose begin gives `maxDrawCount`: its draws are at most that";
     default:
         return NULL;
     }
@@ -460,7 +478,7 @@ static inline const char *wethlorn_rule_section(uint32_t rule) {
         return "Depth/Stencil Attachments";
     case 310:
         return "Compute Passes, Render Passes";
-    case 311:
+    case 311: case 404:
         return "Render Passes";
     case 320:
         return "Drawing, Render Pass Layout";
@@ -483,6 +501,10 @@ static inline const char *wethlorn_rule_section(uint32_t rule) {
         return "executeBundles, Render Pass Layout";
     case 371:
         return "executeBundles";
+    case 400: case 401:
+        return "Rasterization state, Limits";
+    case 402: case 403:
+        return "Rasterization state";
     default:
         return NULL;
     }

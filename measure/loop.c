@@ -16,6 +16,7 @@
  *   arrays       the same, and at the end all is drained by arrays
  *   encoders     so many encoders, each with a copy and its finish
  *   groups       so many bind groups, each of which is dropped at once
+ *   states       so many viewports and scissor rectangles that are set in one render pass, one after the other
  *
  * What calls add to the trace and what they settle is drained as an engine does it: behind each call that queues, completes or destroys
  * something, and of a step that is no command of the engine's own the accesses too, but where it says otherwise. Nothing is submitted but in rounds. It prints the kind,
@@ -307,6 +308,40 @@ static void groups(driven *it, uint64_t count) {
         drop(it, make_group(it, layout, storage, uniform));
 }
 
+/* A view of a texture of so many texels that can be drawn to. */
+static uint64_t make_target(driven *it) {
+    wethlorn_texture_desc desc = {.size = {SIZE, SIZE, 1}, .usage = WETHLORN_TEXTURE_USAGE_RENDER_ATTACHMENT, .format = WETHLORN_RGBA8_UNORM, .dim = WETHLORN_2D, .mips = 1, .samples = 1};
+    wethlorn_view_desc whole = WETHLORN_VIEW_DESC_INIT;
+    wethlorn_reply reply = {0};
+    uint64_t texture = given(it, "createTexture", wethlorn_create_texture(&it->device, &desc, &reply), &reply);
+    return given(it, "createView", wethlorn_create_view(&it->device, texture, &whole, &reply), &reply);
+}
+
+static uint32_t begin_render_pass(driven *it, uint64_t encoder) {
+    wethlorn_color color = WETHLORN_COLOR_INIT;
+    wethlorn_depth none = WETHLORN_DEPTH_INIT;
+    wethlorn_reply reply = {0};
+    color.view = make_target(it);
+    color.load = WETHLORN_CLEAR;
+    color.store = WETHLORN_STORE;
+    given(it, "beginRenderPass", wethlorn_begin_render_pass(&it->device, encoder, &color, 1, &none, WETHLORN_NONE, WETHLORN_NONE, &reply), &reply);
+    return reply.pass;
+}
+
+static void states(driven *it, uint64_t count) {
+    uint64_t encoder = make_encoder(it);
+    uint32_t pass = begin_render_pass(it, encoder);
+    wethlorn_viewport viewport = WETHLORN_VIEWPORT_INIT;
+    viewport.width = viewport.height = SIZE * WETHLORN_FIXED_ONE;
+    for (uint64_t at = 0; at < count; at++) {
+        wethlorn_reply reply = {0};
+        given(it, "setViewport", wethlorn_set_viewport(&it->device, encoder, pass, &viewport, &reply), &reply);
+        given(it, "setScissorRect", wethlorn_set_scissor_rect(&it->device, encoder, pass, 0, 0, SIZE, SIZE, &reply), &reply);
+    }
+    end_pass(it, encoder, pass);
+    finish(it, encoder);
+}
+
 /* The kinds by their words. */
 static const struct {
     const char *word;
@@ -314,7 +349,7 @@ static const struct {
 } KINDS[] = {
     {"rounds", rounds}, {"kept", kept}, {"behind", behind}, {"dispatches", dispatches},
     {"copies", copies}, {"writes", writes}, {"undrained", undrained}, {"singly", singly}, {"arrays", arrays},
-    {"encoders", encoders}, {"groups", groups},
+    {"encoders", encoders}, {"groups", groups}, {"states", states},
 };
 
 /* Opens a device, drives it by calls of a kind, and prints what there was. */
@@ -337,6 +372,6 @@ int main(int words, char **word) {
     for (size_t kind = 0; words == 3 && kind < sizeof KINDS / sizeof *KINDS; kind++)
         if (!strcmp(KINDS[kind].word, word[1]))
             return driven_by(kind, strtoull(word[2], NULL, 10));
-    fprintf(stderr, "usage: loop rounds|kept|behind|dispatches|copies|writes|undrained|singly|arrays|encoders|groups COUNT\n");
+    fprintf(stderr, "usage: loop rounds|kept|behind|dispatches|copies|writes|undrained|singly|arrays|encoders|groups|states COUNT\n");
     return 2;
 }

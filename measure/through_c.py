@@ -30,6 +30,7 @@ COUNTED = {
     "arrays": "the same, drained at the end by arrays of 1,024",
     "encoders": "an encoder with a copy, and its finish",
     "groups": "a createBindGroup, and its drop",
+    "states": "a setViewport and a setScissorRect, in one pass",
 }
 # The kinds of which it is measured what a device keeps, after so many rounds; and after so many where that has a bound.
 KEEPING = ["rounds", "kept", "behind"]

@@ -34,9 +34,15 @@ def layouts_of(pipeline: Played) -> Any:
     return entries_of_each(pipeline.uses["layout"])
 
 
+def layouts_at(pipeline_layout: Played) -> list[Any]:
+    """The bind group layout of each index of a pipeline layout, or None where it is null."""
+    layouts = iter(pipeline_layout.uses["layouts"])
+    return [None if name is None else next(layouts) for name in pipeline_layout.call["layouts"]]
+
+
 def entries_of_each(pipeline_layout: Played) -> Any:
-    """The entries of each bind group layout of a pipeline layout."""
-    return [layout.entries for layout in pipeline_layout.uses["layouts"]]
+    """The entries of each bind group layout of a pipeline layout; a null one has none."""
+    return [[] if layout is None else layout.entries for layout in layouts_at(pipeline_layout)]
 
 
 def entries_of(layout: Played) -> Any:

@@ -18,9 +18,12 @@ if TYPE_CHECKING:
 MOST_GROUPS = limits_of_all("maxBindGroups")
 
 
-def set_rules(index: int, group: Played, offsets: tuple[()]) -> Iterator[tuple[int, str, bool]]:
-    """The own rules of setBindGroup."""
-    yield at_most(325, "index", index, MOST_GROUPS - 1)
+def set_rules(index: int, group: Played | None, offsets: tuple[()]) -> Iterator[tuple[int, str, bool]]:
+    """The own rules of setBindGroup, of which one without a group, which unsets what is set, takes no offset."""
+    yield at_most(325, "index" if group is not None else "index, no group", index, MOST_GROUPS - 1)
+    if group is None:
+        yield 326, "no offset without a group", len(offsets) == 0
+        return
     dynamic = dynamic_of(group)
     yield 326, "no offset is missing", len(offsets) >= len(dynamic)
     yield 326, "no offset too many", len(offsets) <= len(dynamic)
@@ -103,7 +106,9 @@ def equivalent_rules(asked: Any, given: Any) -> Iterator[Any]:
 
 
 def touched(setting: Played) -> list[Any]:
-    """What a setBindGroup binds: pairs of the entry of its layout, and what is touched by it."""
+    """What a setBindGroup binds: pairs of the entry of its layout, and what is touched by it. One without a group binds nothing."""
+    if "group" not in setting.uses:
+        return []
     found = bindings(setting.uses["group"], setting.call["offsets"])
     return [(asked, touches_of(asked, entry, thing, move)) for asked, entry, thing, move in found]
 

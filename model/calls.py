@@ -16,6 +16,9 @@ NEEDED = object()
 
 # Sorts of values.
 WHOLE = "whole number"
+# A fixed number is read as a whole number, and stands for that over the one that stands for 1.
+FIXED = WHOLE
+ONE = 65_536
 WORD32 = "whole number of 32 bits"
 THREE = "three whole numbers of 32 bits"
 WORDS32 = "list of whole numbers of 32 bits"
@@ -39,9 +42,10 @@ ANY_PLACE = ("name", ("encoder", "compute pass", "render pass", "bundle encoder"
 VIEW = ("name", ("view",))
 SAMPLER = ("name", ("sampler",))
 GROUP_LAYOUT = ("name", ("bind group layout",))
-GROUP_LAYOUTS = ("names", ("bind group layout",))
+GROUP_LAYOUTS = ("names or nulls", ("bind group layout",))
 PIPELINE_LAYOUT_OR_AUTO = ("name or auto", ("pipeline layout",))
-GROUP = ("name", ("bind group",))
+GROUP_OR_NULL = ("name or null", ("bind group",))
+BUFFER_OR_NULL = ("name or null", ("buffer",))
 PIPELINE = ("name", ("compute pipeline", "render pipeline"))
 QUERIES = ("name", ("query set",))
 RESOURCE = ("name", ("buffer", "texture", "canvas texture", "query set"))
@@ -166,8 +170,8 @@ DEPTH_STATE = ("object", depth_state_keys)
 COLORS = ("objects or nulls", color_keys)
 DEPTH = ("object", depth_keys)
 WITH_KIND = (layout_entry_keys, iface_entry_keys, render_iface_entry_keys)
-WITH_NAMES = ("name", "name or auto", "names", "object", "objects", "objects or nulls")
-ONE_NAME = ("name", "name or auto")
+WITH_NAMES = ("name", "name or auto", "name or null", "names", "names or nulls", "object", "objects", "objects or nulls")
+ONE_NAME = ("name", "name or auto", "name or null")
 
 CALLS: Dict[str, List[Key]] = {
     "createBuffer": [("size", WHOLE, NEEDED), ("usage", WORD32, NEEDED), ("mapped", FLAG, False), *NAMED],
@@ -225,15 +229,26 @@ CALLS: Dict[str, List[Key]] = {
         ("offset", WHOLE, NEEDED),
     ],
     "beginComputePass": [ON, *NAMED],
-    "beginRenderPass": [ON, ("colors", COLORS, NEEDED), ("depth", DEPTH, None), ("queries", QUERIES, None), *NAMED],
+    "beginRenderPass": [
+        ON, ("colors", COLORS, NEEDED), ("depth", DEPTH, None), ("queries", QUERIES, None), ("maxDrawCount", WHOLE, None), *NAMED,
+    ],
     "setPipeline": [ON_SET, ("pipeline", PIPELINE, NEEDED)],
-    "setBindGroup": [ON_SET, ("index", WORD32, NEEDED), ("group", GROUP, NEEDED), ("offsets", WORDS32, ())],
+    "setBindGroup": [ON_SET, ("index", WORD32, NEEDED), ("group", GROUP_OR_NULL, NEEDED), ("offsets", WORDS32, ())],
     "dispatch": [ON_COMPUTE, ("x", WORD32, NEEDED), ("y", WORD32, 1), ("z", WORD32, 1)],
     "dispatchIndirect": [ON_COMPUTE, ("buffer", BUFFER, NEEDED), ("offset", WHOLE, NEEDED)],
-    "setVertexBuffer": [ON_DRAWN, ("slot", WORD32, NEEDED), ("buffer", BUFFER, NEEDED), ("offset", WHOLE, 0), ("size", WHOLE, None)],
+    "setVertexBuffer": [
+        ON_DRAWN, ("slot", WORD32, NEEDED), ("buffer", BUFFER_OR_NULL, NEEDED), ("offset", WHOLE, 0), ("size", WHOLE, None),
+    ],
     "setIndexBuffer": [
         ON_DRAWN, ("buffer", BUFFER, NEEDED), ("format", word(("uint16", "uint32")), NEEDED), ("offset", WHOLE, 0), ("size", WHOLE, None),
     ],
+    "setViewport": [
+        ON_RENDER, ("x", FIXED, 0), ("left", FLAG, False), ("y", FIXED, 0), ("above", FLAG, False), ("width", FIXED, NEEDED),
+        ("height", FIXED, NEEDED), ("minDepth", FIXED, 0), ("maxDepth", FIXED, ONE),
+    ],
+    "setScissorRect": [ON_RENDER, ("x", WORD32, NEEDED), ("y", WORD32, NEEDED), ("width", WORD32, NEEDED), ("height", WORD32, NEEDED)],
+    "setBlendConstant": [ON_RENDER],
+    "setStencilReference": [ON_RENDER, ("reference", WORD32, NEEDED)],
     "draw": [
         ON_DRAWN, ("vertices", WORD32, NEEDED), ("instances", WORD32, 1), ("firstVertex", WORD32, 0), ("firstInstance", WORD32, 0),
     ],
@@ -249,6 +264,7 @@ CALLS: Dict[str, List[Key]] = {
     "end": [ON_PASS],
     "pushDebugGroup": [ON_ANY, LABELED],
     "popDebugGroup": [ON_ANY],
+    "insertDebugMarker": [ON_ANY, LABELED],
     "createCanvas": [("width", WORD32, NEEDED), ("height", WORD32, NEEDED), AS],
     "configureCanvas": [("canvas", CANVAS, NEEDED), ("format", word(CANVAS_FORMATS), NEEDED), ("usage", WORD32, 16)],
     "currentTexture": [("canvas", CANVAS, NEEDED), *NAMED],
@@ -260,7 +276,8 @@ RECORDING = {
     "copyBufferToBuffer", "copyBufferToTexture", "copyTextureToBuffer", "copyTextureToTexture", "clearBuffer", "resolveQuerySet",
     "beginComputePass", "beginRenderPass", "setPipeline", "setBindGroup", "dispatch", "dispatchIndirect", "setVertexBuffer",
     "setIndexBuffer", "draw", "drawIndexed", "drawIndirect", "drawIndexedIndirect", "beginOcclusionQuery", "endOcclusionQuery",
-    "executeBundles", "end", "pushDebugGroup", "popDebugGroup",
+    "executeBundles", "end", "pushDebugGroup", "popDebugGroup", "insertDebugMarker", "setViewport", "setScissorRect", "setBlendConstant",
+    "setStencilReference",
 }
 BEGINS = {"beginComputePass", "beginRenderPass"}
 DISPATCHES = {"dispatch", "dispatchIndirect"}
@@ -332,7 +349,7 @@ def names_in(sort: Any, value: Any) -> Any:
         return []
     if sort[0] in ONE_NAME:
         return [] if is_auto(sort, value) else [(value, sort[1])]
-    if sort[0] == "names":
-        return [(name, sort[1]) for name in value]
+    if sort[0] in ("names", "names or nulls"):
+        return [(name, sort[1]) for name in value if name is not None]
     items = [value] if sort[0] == "object" else [item for item in value if item is not None]
     return [found for item in items for key, inner, _ in sort[1](item) if inner[0] in WITH_NAMES for found in names_in(inner, item[key])]

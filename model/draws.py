@@ -33,11 +33,23 @@ def range_set(command: Played) -> tuple[int, int]:
 
 def vertex_buffer_rules(command: Played) -> Iterator[tuple[int, str, bool]]:
     """The own rules of setVertexBuffer."""
+    if "buffer" not in command.uses:
+        yield from no_buffer_rules(command.call)
+        return
     buffer, (offset, size) = command.uses["buffer"].call, range_set(command)
     yield 330, "VERTEX", buffer["usage"] & VERTEX != 0
     yield at_most(331, "slot", command.call["slot"], SLOTS - 1)
     yield 332, "offset", offset % 4 == 0
     yield 333, range_word(command, buffer, offset, size), buffers.fits(buffer, offset, size)
+
+
+def no_buffer_rules(call: dict[str, Any]) -> Iterator[tuple[int, str, bool]]:
+    """The own rules of a setVertexBuffer without a buffer, which unsets what is set: its range is that of nothing, and a size that is left
+    out is 0, whatever the offset."""
+    yield at_most(331, "slot, no buffer", call["slot"], SLOTS - 1)
+    yield 332, "offset, no buffer", call["offset"] % 4 == 0
+    yield 333, "offset 0 without a buffer", call["offset"] == 0
+    yield 333, f"size {'left out' if call['size'] is None else '0'} without a buffer", (call["size"] or 0) == 0
 
 
 def index_buffer_rules(command: Played) -> Iterator[tuple[int, str, bool]]:
@@ -105,8 +117,9 @@ def attribute_end(attribute: Any) -> int:
 
 
 def touches_of_range(command: Played) -> list[Any]:
-    """What a setVertexBuffer or setIndexBuffer makes its pass touch: the range, and where that is empty the buffer alone."""
-    if command.do not in ("setVertexBuffer", "setIndexBuffer"):
+    """What a setVertexBuffer or setIndexBuffer makes its pass touch: the range, where that is empty the buffer alone, and nothing where no
+    buffer is set."""
+    if command.do not in ("setVertexBuffer", "setIndexBuffer") or "buffer" not in command.uses:
         return []
     return set_in_buffer(command.uses["buffer"], *range_set(command), "input", "read")
 

@@ -118,7 +118,7 @@ def dynamic_rules(number: Any, entries: Any, limits: Any) -> Iterator[tuple[int,
 
 
 def pipeline_layout_rules(layouts: list[Any], limits: dict[str, int]) -> Iterator[tuple[int, str, bool]]:
-    """The rules of createPipelineLayout on the entries of its layouts, after those on each layout."""
+    """The rules of createPipelineLayout on the entries of its layouts, after those on each layout. A null has no entry, and counts."""
     yield at_most(140, "layouts", len(layouts), MOST_LAYOUTS)
     entries = [entry for layout in layouts for entry in layout]
     yield from seen_rules(141, entries, limits)

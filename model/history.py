@@ -94,6 +94,11 @@ class Played:
         return list(dict.fromkeys(found for thing in self.names for found in resources_in(thing)))
 
     @functools.cached_property
+    def draws(self) -> int:
+        """How many draws the commands of a bundle are."""
+        return sum(passes.draws_of(command) for command in self.commands)
+
+    @functools.cached_property
     def touches(self) -> list[Any]:
         """What a bundle touches in each pass that executes it, each once."""
         return list(dict.fromkeys(passes.touches_of_drawing(self.commands)))

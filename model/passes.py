@@ -5,7 +5,7 @@ from __future__ import annotations
 import collections
 from typing import TYPE_CHECKING, Any, Iterator
 
-from . import attachments, bound_groups, bundles, draws, queries
+from . import attachments, bound_groups, bundles, draws, queries, viewports
 from .calls import BEGINS, DISPATCHES, DRAWS
 from .cells import part_of
 from .draws import INDIRECT_BYTES
@@ -16,6 +16,9 @@ if TYPE_CHECKING:
     from model.history import Played
 
 MOST_COUNT = limits_of_all("maxComputeWorkgroupsPerDimension")
+
+# The commands that set something and have rules of their own.
+SETTINGS = {"setPipeline", "setBindGroup", "setVertexBuffer", "setIndexBuffer", "setViewport", "setScissorRect"}
 
 # The usages that agree with each other on one part; storage and attachment agree with themselves alone.
 READ_TOGETHER = {"input", "constant", "storage-read", "attachment-read"}
@@ -49,13 +52,15 @@ class Walk:
 
 class Settings:
     """What is set of a pass or a bundle after some of its commands, each as the command that set it last, how many of its debug groups are
-    open, which queries were begun in it, and whether one is active."""
+    open, which queries were begun in it, whether one is active, and how often it has drawn, by bundles too. A command without a group or a
+    buffer leaves nothing set at its place."""
 
     def __init__(self) -> None:
         self.unset()
         self.open_groups = 0
         self.begun = set()
         self.is_active = False
+        self.draws = 0
 
     def unset(self) -> None:
         self.pipeline: Played | None = None
@@ -65,12 +70,13 @@ class Settings:
 
     def take(self, command: Played) -> None:
         self.open_groups = groups_after(self.open_groups, command)
+        self.draws += draws_of(command)
         if command.do == "setPipeline":
             self.pipeline = command.uses["pipeline"]
         elif command.do == "setBindGroup":
-            self.groups[command.call["index"]] = command
+            put(self.groups, command.call["index"], command if "group" in command.uses else None)
         elif command.do == "setVertexBuffer":
-            self.vertex_buffers[command.call["slot"]] = command
+            put(self.vertex_buffers, command.call["slot"], command if "buffer" in command.uses else None)
         elif command.do == "setIndexBuffer":
             self.index_buffer = command
         elif command.do == "beginOcclusionQuery":
@@ -82,6 +88,22 @@ class Settings:
             self.unset()
 
 
+def put(places: dict[int, Played], place: int, setting: Played | None) -> None:
+    """Notes what is set last at a place, which may be nothing."""
+    if setting is None:
+        places.pop(place, None)
+    else:
+        places[place] = setting
+
+
+def draws_of(command: Played) -> int:
+    """How many draws a command of a pass or a bundle is: one that draws is one, whatever its counts, and one that executes bundles is all
+    that these have, each as often as it is executed."""
+    if command.do == "executeBundles":
+        return sum(bundle.draws for bundle in command.uses["bundles"])
+    return 1 if command.do in DRAWS else 0
+
+
 def groups_after(count: int, command: Played) -> int:
     """How many debug groups are open after a command on the same encoder or pass: a push opens one, a pop closes one if there is one."""
     if command.do == "pushDebugGroup":
@@ -89,18 +111,18 @@ def groups_after(count: int, command: Played) -> int:
     return max(count - 1, 0) if command.do == "popDebugGroup" else count
 
 
-def pass_rule(begin: Any, commands: list[Played]) -> int | None:
+def pass_rule(begin: Any, commands: list[Played], limits: dict[str, int]) -> int | None:
     """The first rule that a pass leaves unmet: one of its begin, or else of its commands; or None."""
     rule = first_unmet(begin.do, begin_rules(begin))
-    return rule_in(commands) if rule is None else rule
+    return rule_in(commands, limits) if rule is None else rule
 
 
-def rule_in(commands: list[Played], where: str = "") -> int | None:
+def rule_in(commands: list[Played], limits: dict[str, int], where: str = "") -> int | None:
     """The first rule that the commands of a pass or of a bundle encoder leave unmet, which are counted with a word for where they stand; or
     None."""
     settings = Settings()
     for command in commands:
-        rule = first_unmet(command.do + where, command_rules(command, settings))
+        rule = first_unmet(command.do + where, command_rules(command, settings, limits))
         if rule is not None:
             return rule
         settings.take(command)
@@ -114,26 +136,45 @@ def begin_rules(begin: Played) -> Iterator[tuple[int, str, bool]]:
         yield from attachments.begin_rules(begin)
 
 
-def command_rules(command: Played, settings: Settings) -> Iterator[tuple[int, str, bool]]:
+def command_rules(command: Played, settings: Settings, limits: dict[str, int]) -> Iterator[tuple[int, str, bool]]:
     """The rules of a command of a pass or of a bundle encoder by what is set where it comes: those on what it names, then its own."""
     yield from named_rules(command)
+    if command.do in SETTINGS:
+        yield from setting_rules(command, limits)
+    elif command.do in DISPATCHES | DRAWS:
+        yield from bound_groups.bound_rules(settings)
+        yield from work_rules(command, settings)
+    else:
+        yield from bracket_rules(command, settings)
+
+
+def setting_rules(command: Played, limits: dict[str, int]) -> Iterator[tuple[int, str, bool]]:
+    """The own rules of a command that sets something, none of which goes by what is set."""
     call, uses = command.call, command.uses
     if command.do == "setPipeline":
         yield from bundles.pipeline_rules(uses["pipeline"].call, uses["on"])
     elif command.do == "setBindGroup":
-        yield from bound_groups.set_rules(call["index"], uses["group"], call["offsets"])
+        yield from bound_groups.set_rules(call["index"], uses.get("group"), call["offsets"])
     elif command.do == "setVertexBuffer":
         yield from draws.vertex_buffer_rules(command)
     elif command.do == "setIndexBuffer":
         yield from draws.index_buffer_rules(command)
-    elif command.do in DISPATCHES | DRAWS:
-        yield from bound_groups.bound_rules(settings)
-        yield from work_rules(command, settings)
-    elif command.do == "popDebugGroup":
+    elif command.do == "setViewport":
+        yield from viewports.viewport_rules(call, limits)
+    elif command.do == "setScissorRect":
+        yield from viewports.scissor_rules(call, uses["on"])
+
+
+def bracket_rules(command: Played, settings: Settings) -> Iterator[tuple[int, str, bool]]:
+    """The own rules of debug groups, queries, bundles that are executed, and the end of a pass."""
+    call, uses = command.call, command.uses
+    if command.do == "popDebugGroup":
         yield 285, "open group", settings.open_groups > 0
     elif command.do == "end":
         yield 310, "groups are closed", settings.open_groups == 0
         yield 311, "no query is active", not settings.is_active
+        if uses["on"].call.get("maxDrawCount") is not None:
+            yield at_most(404, "draws", settings.draws, uses["on"].call["maxDrawCount"])
     elif command.do == "beginOcclusionQuery":
         yield from queries.begin_rules(uses["on"].uses.get("queries"), call["index"], settings)
     elif command.do == "endOcclusionQuery":

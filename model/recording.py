@@ -17,27 +17,27 @@ if TYPE_CHECKING:
     from model.passes import Walk
 
 
-def verdict(encoder: Played, commands: list[Any]) -> int | None:
+def verdict(encoder: Played, commands: list[Any], limits: dict[str, int]) -> int | None:
     """The rule that went to an encoder or a bundle encoder first, by the commands that were recorded on it and on its passes, or None."""
     if encoder.do == "createBundleEncoder":
-        return passes.rule_in(commands, " in a bundle")
+        return passes.rule_in(commands, limits, " in a bundle")
     walk = passes.Walk()
     for command in commands:
-        rule = rule_given(command, walk)
+        rule = rule_given(command, walk, limits)
         if rule is not None:
             return rule
         walk.take(command)
     return None
 
 
-def rule_given(command: Played, walk: Walk) -> int | None:
+def rule_given(command: Played, walk: Walk, limits: dict[str, int]) -> int | None:
     """The rule that a command gives its encoder after the earlier ones, or None: one on the encoder its own, and the end of the open pass
     that of the pass."""
     place = command.uses["on"]
     if place.do == "createEncoder":
         return first_unmet(command.do, command_rules(command, walk))
     if command.do == "end" and place is walk.open_pass:
-        return passes.pass_rule(place, walk.on[place] + [command])
+        return passes.pass_rule(place, walk.on[place] + [command], limits)
     return None
 
 

@@ -126,7 +126,7 @@ def rules_of(history: History, played: Played) -> Any:
     if played.do == "createBindGroupLayout":
         return groups.layout_rules(call["entries"], history.limits)
     if played.do == "createPipelineLayout":
-        return of_objects(history, [("layout", layout) for layout in uses["layouts"]], pipeline_layout_rules(history, uses["layouts"]))
+        return of_objects(history, [("layout", layout) for layout in uses["layouts"]], pipeline_layout_rules(history, played))
     if played.do == "createBindGroup":
         return bind_group_rules(history, call, uses)
     if played.do in ("createComputePipeline", "createRenderPipeline"):
@@ -151,10 +151,10 @@ def rules_of(history: History, played: Played) -> Any:
     return iter([])
 
 
-def pipeline_layout_rules(history: History, layouts: list[Any]) -> Iterator[tuple[int, str, bool]]:
+def pipeline_layout_rules(history: History, played: Played) -> Iterator[tuple[int, str, bool]]:
     """The own rules of createPipelineLayout, on valid layouts."""
-    yield from groups.pipeline_layout_rules([layout.entries for layout in layouts], history.limits)
-    yield from automatic.exclusive_rules(layouts)
+    yield from groups.pipeline_layout_rules(automatic.entries_of_each(played), history.limits)
+    yield from automatic.exclusive_rules(played.uses["layouts"])
 
 
 def pipeline_rules(history: History, played: Played) -> Iterator[tuple[int, str, bool]]:
@@ -214,7 +214,7 @@ def finish_rules(history: History, encoder: Played) -> Iterator[tuple[int, str, 
     are the same, but that no pass can be open, and that all commands are in one usage scope."""
     yield 180, "ended", not history.has_finished(encoder)
     commands = history.commands_on(encoder)
-    invalidating = recording.verdict(encoder, commands)
+    invalidating = recording.verdict(encoder, commands, history.limits)
     if invalidating is not None:
         yield invalidating, "invalidated the encoder", False
     is_bundle = encoder.do == "createBundleEncoder"

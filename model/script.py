@@ -139,7 +139,7 @@ def read_value(place: tuple[Any, ...], where: str, sort: Any, value: Any) -> Any
         ask(8, "bytes of a label", len(value.encode()) <= MOST_LABEL_BYTES, place)
         ask(8, "characters of a label", all(letter >= " " and letter != "\x7f" for letter in value), place)
     elif sort == NAME or sort[0] in ONE_NAME:
-        ask(8, f"name{where}", type(value) is str, place)
+        ask(8, f"name{where}", type(value) is str or value is None and sort[0] == "name or null", place)
     elif sort[0] == "word":
         ask(8, f"word{where}", type(value) is str and value in sort[1], place)
     elif sort[0] == "object":
@@ -154,6 +154,9 @@ def read_list(place: Any, sort: Any, value: Any) -> Any:
     ask_list(place, sort[0], value)
     if sort[0] == "names":
         ask(8, "names", all(type(item) is str for item in value), place)
+        return value
+    if sort[0] == "names or nulls":
+        ask(8, "names or nulls", all(item is None or type(item) is str for item in value), place)
         return value
     if sort[0] == "words or nulls":
         ask(8, "words or nulls", all(item is None or type(item) is str and item in sort[1] for item in value), place)

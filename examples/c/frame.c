@@ -158,7 +158,8 @@ static void end(frame *it, uint32_t pass) {
 }
 
 static uint32_t begin(frame *it, wethlorn_color color, size_t colors, wethlorn_depth depth) {
-    told(it, "beginRenderPass", wethlorn_begin_render_pass(&it->device, it->encoder, &color, colors, &depth, WETHLORN_NONE, &it->reply));
+    told(it, "beginRenderPass", wethlorn_begin_render_pass(&it->device, it->encoder, &color, colors, &depth,
+        WETHLORN_NONE, WETHLORN_NONE, &it->reply));
     return it->reply.pass;
 }
 

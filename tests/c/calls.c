@@ -449,7 +449,7 @@ static void begin_render_pass(player *p, const json_t *call, const named *on) {
         colors[at].load = word(color, "load", LOADS, 0);
         colors[at].store = word(color, "store", STORES, 0);
     }
-    CALL(p, wethlorn_begin_render_pass(DEVICE, on->number, colors, count, &depth, queries, OUT));
+    CALL(p, wethlorn_begin_render_pass(DEVICE, on->number, colors, count, &depth, queries, number(call, "maxDrawCount", WETHLORN_NONE), OUT));
 }
 
 static void set_pipeline(player *p, const json_t *call, const named *on) {
@@ -489,6 +489,16 @@ static void draw_indexed(player *p, const json_t *call, const named *on) {
     CALL(p, wethlorn_draw_indexed(ON, N32("indices", 0), N32("instances", 1), N32("firstIndex", 0), N32("firstInstance", 0), OUT));
 }
 
+static void set_viewport(player *p, const json_t *call, const named *on) {
+    wethlorn_viewport viewport = {number(call, "x", 0), number(call, "y", 0), number(call, "width", 0), number(call, "height", 0),
+        number(call, "minDepth", 0), number(call, "maxDepth", WETHLORN_FIXED_ONE), flag(call, "left"), flag(call, "above")};
+    CALL(p, wethlorn_set_viewport(ON, &viewport, OUT));
+}
+
+static void set_scissor_rect(player *p, const json_t *call, const named *on) {
+    CALL(p, wethlorn_set_scissor_rect(ON, N32("x", 0), N32("y", 0), N32("width", 0), N32("height", 0), OUT));
+}
+
 /* The calls that read their counts from a buffer. */
 #define INDIRECT(name, function)                                                \
     static void name(player *p, const json_t *call, const named *on) {          \
@@ -509,7 +519,7 @@ static void execute_bundles(player *p, const json_t *call, const named *on) {
     CALL(p, wethlorn_execute_bundles(ON, bundles, count, OUT));
 }
 
-/* The calls that have no key but what they stand on. */
+/* The calls that have no key but what they stand on, or that one at which no rule looks. */
 #define BARE(name, function)                                                    \
     static void name(player *p, const json_t *call, const named *on) {          \
         (void)call;                                                             \
@@ -519,6 +529,9 @@ BARE(end, wethlorn_end)
 BARE(end_occlusion_query, wethlorn_end_occlusion_query)
 BARE(push_debug_group, wethlorn_push_debug_group)
 BARE(pop_debug_group, wethlorn_pop_debug_group)
+BARE(insert_debug_marker, wethlorn_insert_debug_marker)
+BARE(set_blend_constant, wethlorn_set_blend_constant)
+BARE(set_stencil_reference, wethlorn_set_stencil_reference)
 
 static const struct {
     const char *word;
@@ -546,6 +559,8 @@ static const struct {
     {"setIndexBuffer", set_index_buffer}, {"draw", draw}, {"drawIndexed", draw_indexed}, {"drawIndirect", draw_indirect},
     {"drawIndexedIndirect", draw_indexed_indirect}, {"beginOcclusionQuery", begin_occlusion_query}, {"endOcclusionQuery", end_occlusion_query},
     {"executeBundles", execute_bundles}, {"end", end}, {"pushDebugGroup", push_debug_group}, {"popDebugGroup", pop_debug_group},
+    {"insertDebugMarker", insert_debug_marker}, {"setViewport", set_viewport}, {"setScissorRect", set_scissor_rect},
+    {"setBlendConstant", set_blend_constant}, {"setStencilReference", set_stencil_reference},
 };
 
 #define COUNT(list) (sizeof(list) / sizeof((list)[0]))

@@ -69,7 +69,9 @@ static void draw(played *it, const lists *of, uint64_t group) {
     depth.depth_load = WETHLORN_LOAD;
     depth.depth_store = WETHLORN_STORE;
     uint64_t encoder = given(it, wethlorn_create_encoder(device, next(it)), "createCommandEncoder");
-    given(it, wethlorn_begin_render_pass(device, encoder, of->colors, 0, &depth, WETHLORN_NONE, next(it)), "beginRenderPass");
+    given(
+        it, wethlorn_begin_render_pass(device, encoder, of->colors, 0, &depth, WETHLORN_NONE, WETHLORN_NONE, next(it)),
+        "beginRenderPass");
     given(it, wethlorn_set_bind_group(device, encoder, 0, 0, group, of->numbers, 0, next(it)), "setBindGroup");
     given(it, wethlorn_execute_bundles(device, encoder, 0, of->objects, 0, next(it)), "executeBundles");
     given(it, wethlorn_end(device, encoder, 0, next(it)), "end");

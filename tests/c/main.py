@@ -31,8 +31,14 @@ WARNINGS = ["-Wall", "-Wextra", "-Werror"]
 C, CXX = ["-std=c99", *WARNINGS], ["-std=c++17", *WARNINGS]
 NAMES_DROPPED = 4
 SECONDS = 600
-# Each allocation is refused on these, and valgrind plays them: a whole frame, a bundle with queries, and callers that race.
-CLOSELY = ["examples/realistic-frame", "tests/cases/bundles/bundle-and-occlusion-queries", "examples/submit-races-destroy"]
+# Each allocation is refused on these, and valgrind plays them: a whole frame, a bundle with queries, what passes are set to and what is
+# null, and callers that race.
+CLOSELY = [
+    "examples/realistic-frame",
+    "tests/cases/bundles/bundle-and-occlusion-queries",
+    "tests/cases/script/every-key-of-states",
+    "examples/submit-races-destroy",
+]
 CALLS_OF_THREADS = 40_000
 # The sources of the program that plays scripts. What else lies beside them is a program of its own.
 PLAYER = ("play", "calls", "refuse")
@@ -145,7 +151,7 @@ def test_threads(program):
 
 
 def test_edges(program):
-    """Null pointers for lists of no elements, the version, and what a close tells; or limits."""
+    """Null pointers for lists of no elements, the version, and what a close tells; or limits; or what passes are set to."""
     status, said = run([program])
     check(status == 0 and not said, f"{program.name}: status {status}\n{said.decode()}")
 
@@ -311,6 +317,8 @@ def test_programs(words):
         test_rules(folder)
         test_edges(build(folder, "limits", [HERE / "limits.c"], linked))
         test_edges(build(folder, "limits-with-asan", [HERE / "limits.c"], linked, *asan))
+        test_edges(build(folder, "passes", [HERE / "passes.c"], linked))
+        test_edges(build(folder, "passes-with-asan", [HERE / "passes.c"], linked, *asan))
         if shutil.which("c++"):
             test_holder(folder, linked)
         if has_library():

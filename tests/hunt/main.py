@@ -21,7 +21,7 @@ import tempfile
 import time
 
 from wgsim import exit_status
-from wgsim.hunting import core, engines, flat, hunter, known, shaders, shape, smaller, sources, translation
+from wgsim.hunting import core, engines, flat, hunter, known, shaders, shape, smaller, sources, translation, written_pages
 from wgsim.program import program as programs
 from wgsim.reading import calls
 from wgsim.recorder import browser
@@ -205,6 +205,50 @@ def test_translation():
         translation.translated(answered)
 
 
+# A pass to which nothing is attached.
+NOTHING = {"colors": [], "depth": None, "queries": None, "as": "p"}
+# What a call is handed in a page: its word, its keys, and the arguments in JavaScript.
+HANDED = [
+    (
+        "setViewport", {"x": 32768, "left": True, "y": 1, "above": False, "width": 98304, "height": 0, "minDepth": 0, "maxDepth": 65536},
+        "-0.5, 1.52587890625e-05, 1.5, 0, 0, 1",
+    ),
+    (
+        "setViewport",
+        {"x": 0, "left": True, "y": 131072, "above": True, "width": 2**53 - 2**29, "height": 1, "minDepth": 1, "maxDepth": 0},
+        "0, -2, 137438945280, 1.52587890625e-05, 1.52587890625e-05, 0",
+    ),
+    ("setScissorRect", {"x": 1, "y": 2, "width": 3, "height": 2**32 - 1}, "1, 2, 3, 4294967295"),
+    ("setBlendConstant", {}, "[0, 0, 0, 1]"),
+    ("setStencilReference", {"reference": 7}, "7"),
+    ("insertDebugMarker", {}, "'marker'"),
+    ("setBindGroup", {"index": 1, "group": None, "offsets": []}, "1, null"),
+    ("setBindGroup", {"index": 1, "group": None, "offsets": [256]}, "1, null, [256]"),
+    ("setBindGroup", {"index": 1, "group": "g", "offsets": []}, "1, g"),
+    ("setVertexBuffer", {"slot": 1, "buffer": None, "offset": 4, "size": None}, "1, null, 4"),
+    ("setVertexBuffer", {"slot": 1, "buffer": None, "offset": 0, "size": 8}, "1, null, 0, 8"),
+    ("createPipelineLayout", {"layouts": [None, "l"], "as": "y"}, "{ bindGroupLayouts: [null, l] }"),
+    ("beginRenderPass", {**NOTHING, "maxDrawCount": 0}, "{ colorAttachments: [], maxDrawCount: 0 }"),
+    ("beginRenderPass", {**NOTHING, "maxDrawCount": None}, "{ colorAttachments: [] }"),
+]
+# Fixed numbers, each with that of the float that a page makes of it.
+FLOATS = [
+    (0, 0), (1, 1), (2**24 - 1, 2**24 - 1), (2**24 + 1, 2**24), (2**24 + 3, 2**24 + 4), (8192 * 65536 + 32, 8192 * 65536),
+    (8192 * 65536 + 33, 8192 * 65536 + 64), (8192 * 65536 - 1, 8192 * 65536), (2**53 - 1, 2**53 - 2**29),
+]
+
+
+def test_states():
+    """What a page hands over where it sets a pass is what the script says, fixed numbers exactly; and only floats are handed over."""
+    for word, keys, told in HANDED:
+        args = translation.TRANSLATE[word]({"do": word, "on": "e", **keys})["args"]
+        check(written_pages.items(args) == told, f"{word} with {keys} is handed {written_pages.items(args)} in a page")
+    for number, told in FLOATS:
+        call = {"do": "setViewport", "on": "p", "width": number, "height": 1, "label": "x"}
+        found = flat.with_floats(call)
+        check(found == {**call, "width": told} and call["width"] == number, f"the fixed number {number} is {found['width']} in a page")
+
+
 class Lying:
     """The engine that lies, without a process of its own."""
 
@@ -282,9 +326,9 @@ def main():
         os.environ[programs.NAMED] = os.path.abspath(words.program)
     with tempfile.TemporaryDirectory(prefix="hunt-") as name:
         folder = pathlib.Path(name)
-        tests = [test_translation, test_small, test_known, lambda: test_bad_input(folder), lambda: test_firefox_fake(folder)]
+        tests = [test_translation, test_states, test_small, test_known, lambda: test_bad_input(folder), lambda: test_firefox_fake(folder)]
         tests += [lambda: test_no_browser(folder), lambda: test_engine(folder), lambda: test_stopped(folder)]
-        names = ["translation", "small", "known", "bad_input", "firefox_fake", "no_browser", "engine", "stopped"]
+        names = ["translation", "states", "small", "known", "bad_input", "firefox_fake", "no_browser", "engine", "stopped"]
         if browser.found(None) is None:
             print("notice: Chromium is not installed, so no browser is hunted (Debian: apt-get install chromium)")
         else:

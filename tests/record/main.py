@@ -94,11 +94,7 @@ def test_tables():
     """Each thing that is left out has its words, and its row in the coverage; so has each difference that is known."""
     parts = "".join((whole_text.FOLDER / name).read_text(encoding="utf-8") for name in whole_text.PARTS)
     coverage = (TOP / "docs/coverage.md").read_text(encoding="utf-8")
-    used = (
-        set(re.findall(r"new Outside\('([^']+)'", parts))
-        | set(re.findall(r"leave\('([^']+)'\)", parts))
-        | set(re.findall(r"unsetting\([^)]*'([^']+)'\)", parts))
-    )
+    used = set(re.findall(r"new Outside\('([^']+)'", parts)) | set(re.findall(r"leave\('([^']+)'\)", parts))
     used |= set(re.findall(r"'[\w*]+\.\w+': '([^']+)'", parts)) | {"external texture", "canvas format"}
     for word in sorted(used - set(whole_text.OUTSIDE)):
         check(False, f"tools/wgsim/recorder/outside.json: {word} is missing, which the recorder notes")
@@ -434,7 +430,7 @@ def test_judged():
         "createComputePipeline is not in the script: the number A + 1 of a group or a binding, at 2:20 of the text of the shader",
         "left out, since no script says it: ", "the browser refuses a shader: ", "outside before call ",
         "no script has it: an object of another device", "agrees at call ",
-        "outside at call 30, outside.html:44:34 in frame, the first of 3 times: finish: ",
+        "outside at call 33, outside.html:37:34 in frame, the first of 3 times: finish: ",
         "        @compute @workgroup_size(1) fn main() { let a: i32 = 1.5; }\n",
     ):
         check(words in text, f"judge does not say `{words}`")
@@ -482,7 +478,7 @@ def test_browser_errors():
             " browser's words say what it wants.\n"
         ),
         "follows from an earlier error: call 9: ",
-        "follows from an earlier error: call 31: ",
+        "follows from an earlier error: call 34: ",
     )
     for each in words:
         check(each in text, f"explain of outside does not say `{each}`")
@@ -496,7 +492,7 @@ def test_browser_errors():
     again = "this is the first of 3 times at this place of the page"
     heads = re.findall(r"^(?:FAULT|BROWSER'S ERROR) .*", text, re.M)
     check(
-        text.count(again) == 2 and f"{again}; it comes again at entries 33, 47\n" in text and len(heads) == 4,
+        text.count(again) == 2 and f"{again}; it comes again at entries 34, 48\n" in text and len(heads) == 4,
         f"explain of outside does not tell once what comes in each frame: {heads}",
     )
 
@@ -537,8 +533,8 @@ PICTURED = {
     "outside": (
         "The browser made 9 errors where no rule of this core is broken.",
         "Browser's error at outside.html:18:23: createShaderModule",
-        "this is the first of 3 times at this place of the page; it comes again at entries 33, 47",
-        "Browser's error at outside.html:44:34 in frame (line 32 of the script): finish</b> <small>the first of 3 times</small>",
+        "this is the first of 3 times at this place of the page; it comes again at entries 34, 48",
+        "Browser's error at outside.html:37:34 in frame (line 35 of the script): finish</b> <small>the first of 3 times</small>",
         "outside.html:19:8 (line 11 of the script): createComputePipeline only follows: the browser",
     ),
 }
@@ -567,13 +563,13 @@ EXCUSED = [
     ("createRenderPipeline", ["depthStencil.depthCompare", "target.blend"], "Blend factor is not allowed.", "outside", "it used blending"),
     (
         "createRenderPipeline",
-        ["setViewport", "shader"],
+        ["setImmediates", "shader"],
         "[Invalid ShaderModule (unlabeled)] is invalid due to a previous error.",
         "outside",
         "it used a shader that the browser refuses",
     ),
     ("createRenderPipeline", ["depthStencil.depthCompare"], "Color format of target 0 is wrong.", "differs", None),
-    ("createRenderPipeline", ["setViewport"], "Viewport width (640000.000000) exceeds the maximum (8192).", "differs", None),
+    ("createRenderPipeline", ["setImmediates"], "The immediate data size (80) exceeds the maximum (64).", "differs", None),
     (
         "createRenderPipeline",
         [],
@@ -581,8 +577,8 @@ EXCUSED = [
         "outside",
         "it is about the vertex inputs that the interface of the shader has, at which this core does not look",
     ),
-    ("finish", ["setViewport", "format", "setScissorRect"], "Viewport width (640000.0) exceeds it.", "outside", "it used the viewport"),
-    ("finish", ["setViewport", "format"], "No bind group set.", "outside", "it used a format of textures that a script does not have"),
+    ("finish", ["setImmediates", "format", "writeTimestamp"], "The immediate data exceeds it.", "outside", "it used immediate data"),
+    ("finish", ["setImmediates", "format"], "No bind group set.", "outside", "it used a format of textures that a script does not have"),
 ]
 
 

@@ -43,7 +43,7 @@ done_by old new event reply setup sent grown still settled =
 pub asked_by : (old new : InnerValue) (request : RequestOf ℕ) (reply : Reply) (out : ToldReply)
     → new.desk.setup ≡ old.desk.setup → HasSent old.desk new.desk 0 (event_sent old.desk.seats request) reply
     → IsNumber reply.answer (length old.desk.seats) → HandsOutGrowth old.desk new.desk old.items new.items
-    → new.desk.seats ≡ seats_after old.desk.setup.serial old.desk.seats request reply.answer
+    → new.desk.seats ≡ seats_after old.desk.setup old.desk.seats request reply.answer
     → new.told ≡ old.told → new.settled ≡ old.settled ++ reply.settled → out ≡ reply_told reply (length old.desk.history) 0
     → HasAsked old new request out
 asked_by old new request reply out setup sent number grown seats still settled out_is =
@@ -51,7 +51,7 @@ asked_by old new request reply out setup sent number grown seats still settled o
     let e : reply ≡ R = sent.replied in
     record {
       done = done_by old new (event_sent old.desk.seats request) reply setup sent grown still settled;
-      seats = subst (λ (r : Reply). new.desk.seats ≡ seats_after old.desk.setup.serial old.desk.seats request r.answer) e seats;
+      seats = subst (λ (r : Reply). new.desk.seats ≡ seats_after old.desk.setup old.desk.seats request r.answer) e seats;
       number = subst (λ (r : Reply). IsNumber r.answer (length old.desk.seats)) e number;
       out_is = subst (λ (r : Reply). out ≡ reply_told r (length old.desk.history) 0) e out_is;
     }

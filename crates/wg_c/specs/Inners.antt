@@ -76,7 +76,7 @@ pub record HasDone (old new : InnerValue) (event : Event) : Type 0 where
 -- A call was made, and this is what was told of it.
 pub record HasAsked (old new : InnerValue) (request : RequestOf ℕ) (out : ToldReply) : Type 0 where
   pub done : HasDone old new (event_sent old.desk.seats request)
-  pub seats : new.desk.seats ≡ seats_after old.desk.setup.serial old.desk.seats request (answer_to old (event_sent old.desk.seats request)).answer
+  pub seats : new.desk.seats ≡ seats_after old.desk.setup old.desk.seats request (answer_to old (event_sent old.desk.seats request)).answer
   pub number : IsNumber (answer_to old (event_sent old.desk.seats request)).answer (length old.desk.seats)
   pub out_is : out ≡ reply_told (answer_to old (event_sent old.desk.seats request)) (length old.desk.history) 0
 

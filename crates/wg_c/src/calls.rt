@@ -1,7 +1,8 @@
 //! The exports that make objects.
-ghost use Rattle.std.specs.Prelude.{Some};
+ghost use Rattle.std.specs.Prelude.{Some, map};
 ghost use Rattle.wg_types.specs.declared.requests.RequestOf.TheVariants as request;
 ghost use Rattle.wg_told.specs.Asked as asked;
+ghost use Rattle.wg_told.specs.Tables.{wide_of};
 ghost use Rattle.wg_c.specs.Exports.{Asks};
 
 use crate::boundary::{ask, ask_made};
@@ -86,7 +87,7 @@ pub extern "C" fn wethlorn_create_bind_group_layout(
     )
 }
 
-/// Makes a pipeline layout.
+/// Makes a pipeline layout, of layouts of which each may be left out.
 #[unsafe(no_mangle)]
 pub extern "C" fn wethlorn_create_pipeline_layout(
     alloc: Global,
@@ -94,7 +95,7 @@ pub extern "C" fn wethlorn_create_pipeline_layout(
     layouts: &[u64],
     out: &mut ToldReply,
 ) -> u32
-    ensures { Asks (Some (request.CreatePipelineLayout layouts.now)) device.old.inside device.new.inside out.old out.new result }
+    ensures { Asks (Some (request.CreatePipelineLayout (map wide_of layouts.now))) device.old.inside device.new.inside out.old out.new result }
 {
     ask_made(
         device,

@@ -43,16 +43,17 @@ pub extern "C" fn wethlorn_begin_render_pass(
     colors: &[FlatColor],
     depth: &FlatDepth,
     queries: u64,
+    max_draws: u64,
     out: &mut ToldReply,
 ) -> u32
-    ensures { Records (asked.begin_render_pass colors.now depth.now queries) encoder Encoder device.old.inside device.new.inside out.old out.new result }
+    ensures { Records (asked.begin_render_pass colors.now depth.now queries max_draws) encoder Encoder device.old.inside device.new.inside out.old out.new result }
 {
     record(
         device,
         alloc,
         encoder,
         u32::MAX,
-        commands::begin_render_pass(alloc, colors, depth, queries),
+        commands::begin_render_pass(alloc, colors, depth, queries, max_draws),
         out,
     )
 }
@@ -109,6 +110,27 @@ pub extern "C" fn wethlorn_pop_debug_group(
         encoder,
         pass,
         Ok(Some(CommandOf::PopDebugGroup)),
+        out,
+    )
+}
+
+/// Marks a place.
+#[unsafe(no_mangle)]
+pub extern "C" fn wethlorn_insert_debug_marker(
+    alloc: Global,
+    device: &mut Device,
+    encoder: u64,
+    pass: u32,
+    out: &mut ToldReply,
+) -> u32
+    ensures { Records (Some command.InsertDebugMarker) encoder (on_of pass) device.old.inside device.new.inside out.old out.new result }
+{
+    record(
+        device,
+        alloc,
+        encoder,
+        pass,
+        Ok(Some(CommandOf::InsertDebugMarker)),
         out,
     )
 }

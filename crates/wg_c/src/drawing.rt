@@ -9,6 +9,7 @@ ghost use Rattle.wg_c.specs.Exports.{Records};
 use crate::boundary::{record, record_made};
 use crate::sealed::Device;
 use std::alloc::Global;
+use wg_told::flats::FlatViewport;
 use wg_told::{ToldReply, commands, wide_of};
 use wg_types::commands::CommandOf;
 
@@ -34,7 +35,7 @@ pub extern "C" fn wethlorn_set_pipeline(
     )
 }
 
-/// Sets a bind group.
+/// Sets a bind group, or unsets the one that is set.
 #[unsafe(no_mangle)]
 pub extern "C" fn wethlorn_set_bind_group(
     alloc: Global,
@@ -46,7 +47,7 @@ pub extern "C" fn wethlorn_set_bind_group(
     offsets: &[u32],
     out: &mut ToldReply,
 ) -> u32
-    ensures { Records (Some (command.SetBindGroup index group offsets.now)) encoder (on_of pass) device.old.inside device.new.inside out.old out.new result }
+    ensures { Records (Some (command.SetBindGroup index (wide_of group) offsets.now)) encoder (on_of pass) device.old.inside device.new.inside out.old out.new result }
 {
     record_made(
         device,
@@ -105,7 +106,7 @@ pub extern "C" fn wethlorn_dispatch_indirect(
     )
 }
 
-/// Sets a vertex buffer.
+/// Sets a vertex buffer, or unsets the one that is set.
 #[unsafe(no_mangle)]
 pub extern "C" fn wethlorn_set_vertex_buffer(
     alloc: Global,
@@ -118,7 +119,7 @@ pub extern "C" fn wethlorn_set_vertex_buffer(
     size: u64,
     out: &mut ToldReply,
 ) -> u32
-    ensures { Records (Some (command.SetVertexBuffer slot buffer offset (wide_of size))) encoder (on_of pass) device.old.inside device.new.inside out.old out.new result }
+    ensures { Records (Some (command.SetVertexBuffer slot (wide_of buffer) offset (wide_of size))) encoder (on_of pass) device.old.inside device.new.inside out.old out.new result }
 {
     record(
         device,
@@ -127,7 +128,7 @@ pub extern "C" fn wethlorn_set_vertex_buffer(
         pass,
         Ok(Some(CommandOf::SetVertexBuffer {
             slot,
-            buffer,
+            buffer: wide_of(buffer),
             offset,
             size: wide_of(size),
         })),
@@ -262,6 +263,100 @@ pub extern "C" fn wethlorn_draw_indexed_indirect(
         encoder,
         pass,
         Ok(Some(CommandOf::DrawIndexedIndirect { buffer, offset })),
+        out,
+    )
+}
+
+/// Sets the viewport.
+#[unsafe(no_mangle)]
+pub extern "C" fn wethlorn_set_viewport(
+    alloc: Global,
+    device: &mut Device,
+    encoder: u64,
+    pass: u32,
+    viewport: &FlatViewport,
+    out: &mut ToldReply,
+) -> u32
+    ensures { Records (asked.set_viewport viewport.now) encoder (on_of pass) device.old.inside device.new.inside out.old out.new result }
+{
+    record(
+        device,
+        alloc,
+        encoder,
+        pass,
+        Ok(commands::set_viewport(viewport)),
+        out,
+    )
+}
+
+/// Sets the scissor rectangle.
+#[unsafe(no_mangle)]
+pub extern "C" fn wethlorn_set_scissor_rect(
+    alloc: Global,
+    device: &mut Device,
+    encoder: u64,
+    pass: u32,
+    x: u32,
+    y: u32,
+    width: u32,
+    height: u32,
+    out: &mut ToldReply,
+) -> u32
+    ensures { Records (Some (command.SetScissorRect x y width height)) encoder (on_of pass) device.old.inside device.new.inside out.old out.new result }
+{
+    record(
+        device,
+        alloc,
+        encoder,
+        pass,
+        Ok(Some(CommandOf::SetScissorRect {
+            x,
+            y,
+            width,
+            height,
+        })),
+        out,
+    )
+}
+
+/// Sets the blend constant, which is no matter of this call.
+#[unsafe(no_mangle)]
+pub extern "C" fn wethlorn_set_blend_constant(
+    alloc: Global,
+    device: &mut Device,
+    encoder: u64,
+    pass: u32,
+    out: &mut ToldReply,
+) -> u32
+    ensures { Records (Some command.SetBlendConstant) encoder (on_of pass) device.old.inside device.new.inside out.old out.new result }
+{
+    record(
+        device,
+        alloc,
+        encoder,
+        pass,
+        Ok(Some(CommandOf::SetBlendConstant)),
+        out,
+    )
+}
+
+/// Sets the stencil reference, which is no matter of this call.
+#[unsafe(no_mangle)]
+pub extern "C" fn wethlorn_set_stencil_reference(
+    alloc: Global,
+    device: &mut Device,
+    encoder: u64,
+    pass: u32,
+    out: &mut ToldReply,
+) -> u32
+    ensures { Records (Some command.SetStencilReference) encoder (on_of pass) device.old.inside device.new.inside out.old out.new result }
+{
+    record(
+        device,
+        alloc,
+        encoder,
+        pass,
+        Ok(Some(CommandOf::SetStencilReference)),
         out,
     )
 }

@@ -8,7 +8,7 @@ use Rattle.std.proofs.lemmas.List.Elements.{All-nil, All-cons}
 use Rattle.wg_types.specs.Handles.{HandleValue}
 use Rattle.wg_types.specs.Kinds.{kind_of}
 use Rattle.wg_types.specs.Wanted.{admits}
-use Rattle.wg_types.specs.Refs.{all_wanted, maybe_wanted}
+use Rattle.wg_types.specs.Refs.{some_wanted, maybe_wanted}
 use Rattle.wg_types.specs.Bindings.{resource_named, map_resource, map_entry, entries_named}
 use Rattle.wg_types.specs.Requests.{named, kind_made}
 use Rattle.wg_types.specs.declared.wanted.Wanted.{Wanted}
@@ -179,9 +179,10 @@ all_told setup entry past useds if_own stands k d lt = told setup entry past (sl
 abbrev referred : HandleValue × Wanted → ObjRef × Wanted
 referred used = (used.0.reference, used.1)
 
-wanted_refer : (asked : Wanted) (handles : List HandleValue) → all_wanted asked (map reference_of handles) ≡ map referred (all_wanted asked handles)
-wanted_refer asked [] = refl
-wanted_refer asked (handle ∷ handles) = ap (λ rest. (handle.reference, asked) ∷ rest) (wanted_refer asked handles)
+some_refer : (asked : Wanted) (handles : List (Option HandleValue)) → some_wanted asked (map (option_map reference_of) handles) ≡ map referred (some_wanted asked handles)
+some_refer asked [] = refl
+some_refer asked (None ∷ handles) = some_refer asked handles
+some_refer asked (Some handle ∷ handles) = ap (λ rest. (handle.reference, asked) ∷ rest) (some_refer asked handles)
 
 maybe_refers : (asked : Wanted) (handle : Option HandleValue) → maybe_wanted asked (option_map reference_of handle) ≡ map referred (maybe_wanted asked handle)
 maybe_refers asked None = refl
@@ -222,10 +223,10 @@ known_same setup entry past (CreateView texture asked) if_own ruled =
 known_same setup entry past (CreateSampler made) if_own ruled = refl
 known_same setup entry past (CreateBindGroupLayout made) if_own ruled = refl
 known_same setup entry past (CreatePipelineLayout layouts) if_own ruled =
-    let useds : List (HandleValue × Wanted) = all_wanted wanted.GroupLayout layouts in
-    let more : List Rule = pipeline_layout_rules setup.limits (pipeline_layout_made (λ r. r) (known_in past) (map reference_of layouts)).layouts_info in
+    let useds : List (HandleValue × Wanted) = some_wanted wanted.GroupLayout layouts in
+    let more : List Rule = pipeline_layout_rules setup.limits (pipeline_layout_made (λ r. r) (known_in past) (map (option_map reference_of) layouts)).layouts_info in
     info_is_made (known_in past) (CreatePipelineLayout layouts)
-    (all_told setup entry past useds if_own (first_stand setup past (all_wanted wanted.GroupLayout (map reference_of layouts)) useds more (wanted_refer wanted.GroupLayout layouts) ruled))
+    (all_told setup entry past useds if_own (first_stand setup past (some_wanted wanted.GroupLayout (map (option_map reference_of) layouts)) useds more (some_refer wanted.GroupLayout layouts) ruled))
 known_same setup entry past (CreateBindGroup layout entries) if_own ruled =
     let useds : List (HandleValue × Wanted) = (layout, wanted.GroupLayout) ∷ entries_named entries in
     let made : GroupInfo = group_made (λ r. r) (known_in past) layout.reference (map (map_entry reference_of) entries) in

@@ -1,6 +1,6 @@
 -- So much is known of the object that a call makes as of that which its event makes.
 use Rattle.std.proofs.Common.{◌≡◌, Option, Some, None, List, [], ◌∷◌, map, refl, sym, ap, ap₂}
-use Rattle.std.specs.Prelude.{All}
+use Rattle.std.specs.Prelude.{All, option_map, option_and_then}
 use Rattle.std.proofs.lemmas.List.Elements.{All-head, All-tail}
 use Rattle.wg_types.specs.Handles.{HandleValue}
 use Rattle.wg_types.specs.declared.wanted.Wanted.{Wanted}
@@ -11,10 +11,10 @@ use Rattle.wg_types.specs.declared.handles.Info.TheVariants as info
 use Rattle.wg_types.specs.declared.bindings.ResourceOf.{ResourceOf}
 use Rattle.wg_types.specs.declared.bindings.ResourceOf.TheVariants.{Buffer, View, Sampler}
 use Rattle.wg_types.specs.declared.bindings.GroupEntryOf.{GroupEntryOf}
-use Rattle.wg_types.specs.Refs.{all_wanted}
+use Rattle.wg_types.specs.Refs.{some_wanted}
 use Rattle.wg_types.specs.Bindings.{resource_named, map_resource, map_entry, entries_named}
 use Rattle.wg_types.specs.declared.requests.RequestOf.TheVariants.{CreateBuffer, CreateTexture, CreateView, CreateSampler, CreateBindGroupLayout, CreatePipelineLayout, CreateBindGroup, CreateComputePipeline, CreateRenderPipeline, GetBindGroupLayout, CreateQuerySet, CreateEncoder, CreateBundleEncoder, Finish, FinishBundle, Submit, WriteBuffer, WriteTexture, Destroy, Drop, Complete, PushErrorScope, PopErrorScope, Lose, WorkDone, MapAsync, Unmap}
-use Rattle.wg_model.specs.Making.{known_group_layout, bound_resource, bound_entry}
+use Rattle.wg_model.specs.Making.{known_group_layout, bound_resource, bound_entry, given_layouts}
 use Rattle.wg_calls.specs.Calls.{reference_of, known_by}
 use Rattle.wg_calls.specs.Infos.{InfoIsMade}
 
@@ -22,17 +22,19 @@ use Rattle.wg_calls.specs.Infos.{InfoIsMade}
 abbrev pub KnowsHandle : (ObjRef → Option Info) → HandleValue × Wanted → Type 0
 KnowsHandle known used = known (reference_of used.0) ≡ known_by used.0
 
-references : (handles : List HandleValue) → map reference_of handles ≡ map (λ r. r) (map reference_of handles)
+references : (handles : List (Option HandleValue)) → given_layouts reference_of handles ≡ given_layouts (λ r. r) (map (option_map reference_of) handles)
 references [] = refl
-references (handle ∷ handles) = ap (λ rest. reference_of handle ∷ rest) (references handles)
+references (None ∷ handles) = references handles
+references (Some handle ∷ handles) = ap (λ rest. reference_of handle ∷ rest) (references handles)
 
-group_layouts : (known : ObjRef → Option Info) (handles : List HandleValue) → All (KnowsHandle known) (all_wanted wanted.GroupLayout handles)
-    → map (λ handle. known_group_layout (known_by handle)) handles ≡ map (λ r. known_group_layout (known r)) (map reference_of handles)
+group_layouts : (known : ObjRef → Option Info) (handles : List (Option HandleValue)) → All (KnowsHandle known) (some_wanted wanted.GroupLayout handles)
+    → map (λ handle. known_group_layout (option_and_then known_by handle)) handles ≡ map (λ r. known_group_layout (option_and_then known r)) (map (option_map reference_of) handles)
 group_layouts known [] all = refl
-group_layouts known (handle ∷ handles) all =
+group_layouts known (None ∷ handles) all = ap (λ xs. known_group_layout None ∷ xs) (group_layouts known handles all)
+group_layouts known (Some handle ∷ handles) all =
     ap₂ (λ x xs. x ∷ xs)
-    (ap (λ i. known_group_layout i) (sym (All-head (KnowsHandle known) (handle, wanted.GroupLayout) (all_wanted wanted.GroupLayout handles) all)))
-    (group_layouts known handles (All-tail (KnowsHandle known) (handle, wanted.GroupLayout) (all_wanted wanted.GroupLayout handles) all))
+    (ap (λ i. known_group_layout i) (sym (All-head (KnowsHandle known) (handle, wanted.GroupLayout) (some_wanted wanted.GroupLayout handles) all)))
+    (group_layouts known handles (All-tail (KnowsHandle known) (handle, wanted.GroupLayout) (some_wanted wanted.GroupLayout handles) all))
 
 bound : (known : ObjRef → Option Info) (resource : ResourceOf HandleValue) → KnowsHandle known (resource_named resource)
     → bound_resource reference_of known_by resource ≡ bound_resource (λ r. r) known (map_resource reference_of resource)

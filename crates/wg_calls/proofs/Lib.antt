@@ -2,3 +2,4 @@ pub mod Begun
 pub mod Infos
 pub mod Genuine
 pub mod Owners
+pub mod Judged

@@ -4,6 +4,8 @@ use Rattle.wg_types.specs.Handles.{HandleValue}
 use Rattle.wg_types.specs.declared.handles.ObjRef.{ObjRef}
 use Rattle.wg_types.specs.declared.handles.Info.{Info}
 use Rattle.wg_types.specs.declared.handles.Info.TheVariants as info
+use Rattle.wg_types.specs.declared.limits.Limits.{Limits}
+use Rattle.wg_types.specs.declared.limits.Maker.{Maker}
 use Rattle.wg_types.specs.declared.render.TargetInfo.{TargetInfo}
 use Rattle.wg_types.specs.declared.textures.TextureInfo.{TextureInfo}
 use Rattle.wg_types.specs.declared.textures.ViewAsked.{ViewAsked}
@@ -16,7 +18,7 @@ use Rattle.wg_types.specs.declared.requests.RequestOf.TheVariants.{CreateBuffer,
 use Rattle.wg_model.specs.Commands.{texture_of, no_texture, size_or_rest}
 use Rattle.wg_model.specs.Making.{view_made, pipeline_layout_made, group_made, compute_made, render_made, group_layout_made, group_layout_got}
 use Rattle.wg_model.specs.Views.{completed_view}
-use Rattle.wg_model.specs.Walk.{no_targets, bundle_of}
+use Rattle.wg_model.specs.Walk.{no_limits, no_targets, bundle_of}
 use Rattle.wg_encoder.specs.Recorders.{RecorderValue, RecordingValue, after_take, targets_left}
 use Rattle.wg_history.specs.declared.events.Event.{Event}
 use Rattle.wg_history.specs.declared.events.Event.TheVariants as event
@@ -37,6 +39,10 @@ texture_if_valid texture = if texture.valid then texture_of texture else no_text
 abbrev pub view_asked : HandleValue → ViewAsked → ViewDesc
 view_asked texture asked = completed_view (texture_if_valid texture) asked.dim asked.aspect asked.base_mip asked.mips asked.base_layer asked.layers
 
+-- what stands for the maker of what is handed over without a recorder, which has no commands: the device of the encoder, with no limits
+abbrev pub unlimited : ObjRef → Maker
+unlimited encoder = record { device = encoder.device; limits = no_limits }
+
 -- The event that a call of the device is. A finish and a finishBundle come here without a recorder, and have no commands; that of a
 -- recorder is below.
 abbrev pub event_asked : RequestOf HandleValue → Event
@@ -45,7 +51,7 @@ event_asked (CreateTexture known) = event.CreateTexture known
 event_asked (CreateView texture asked) = event.CreateView texture.reference (view_asked texture asked)
 event_asked (CreateSampler known) = event.CreateSampler known
 event_asked (CreateBindGroupLayout entries) = event.CreateBindGroupLayout entries
-event_asked (CreatePipelineLayout layouts) = event.CreatePipelineLayout (map reference_of layouts)
+event_asked (CreatePipelineLayout layouts) = event.CreatePipelineLayout (map (option_map reference_of) layouts)
 event_asked (CreateBindGroup layout entries) = event.CreateBindGroup layout.reference (map (map_entry reference_of) entries)
 event_asked (CreateComputePipeline layout iface) = event.CreateComputePipeline (option_map reference_of layout) iface
 event_asked (CreateRenderPipeline layout desc) = event.CreateRenderPipeline (option_map reference_of layout) desc
@@ -53,8 +59,8 @@ event_asked (GetBindGroupLayout pipeline index) = event.GetBindGroupLayout pipel
 event_asked (CreateQuerySet known) = event.CreateQuerySet known
 event_asked CreateEncoder = event.CreateEncoder
 event_asked (CreateBundleEncoder targets) = event.CreateBundleEncoder targets
-event_asked (Finish encoder) = event.Finish encoder.reference (record { device = encoder.reference.device; targets = None; commands = [] })
-event_asked (FinishBundle encoder) = event.FinishBundle encoder.reference (record { device = encoder.reference.device; targets = Some no_targets; commands = [] })
+event_asked (Finish encoder) = event.Finish encoder.reference (record { maker = unlimited encoder.reference; targets = None; commands = [] })
+event_asked (FinishBundle encoder) = event.FinishBundle encoder.reference (record { maker = unlimited encoder.reference; targets = Some no_targets; commands = [] })
 event_asked (Submit buffers) = event.Submit (map reference_of buffers)
 event_asked (WriteBuffer buffer offset size) = event.WriteBuffer buffer.reference offset size
 event_asked (WriteTexture texture spot layout size data_size) = event.WriteTexture texture.reference spot layout size data_size
@@ -85,7 +91,7 @@ info_asked (CreateQuerySet known) = Some (info.Queries known)
 info_asked CreateEncoder = Some info.Encoder
 info_asked (CreateBundleEncoder targets) = Some (info.BundleEncoder targets)
 info_asked (Finish encoder) = Some info.CommandBuffer
-info_asked (FinishBundle encoder) = Some (info.Bundle (bundle_of encoder.reference.device (Some no_targets) []))
+info_asked (FinishBundle encoder) = Some (info.Bundle (bundle_of (unlimited encoder.reference) (Some no_targets) []))
 info_asked (Submit buffers) = None
 info_asked (WriteBuffer buffer offset size) = None
 info_asked (WriteTexture texture spot layout size data_size) = None
@@ -101,7 +107,7 @@ info_asked (Unmap buffer) = None
 
 -- the recording that a recorder hands over
 abbrev pub recording_of : RecorderValue → RecordingValue
-recording_of recorder = record { device = recorder.device; targets = recorder.targets; commands = recorder.commands }
+recording_of recorder = record { maker = recorder.maker; targets = recorder.targets; commands = recorder.commands }
 
 -- The end of an encoder with what its recorder hands over, which is that of a bundle encoder where it has targets, and what is known
 -- of that which it makes.
@@ -114,7 +120,7 @@ finish_event (Some targets) encoder recording = event.FinishBundle encoder recor
 -- what is known of what an end makes: a command buffer, or the bundle of a recording
 abbrev pub finished_info : Option TargetInfo → RecordingValue → Info
 finished_info None recording = info.CommandBuffer
-finished_info (Some targets) recording = info.Bundle (bundle_of recording.device recording.targets recording.commands)
+finished_info (Some targets) recording = info.Bundle (bundle_of recording.maker recording.targets recording.commands)
 
 -- the event that ends an encoder or a bundle encoder, with the commands that its recorder has kept
 abbrev pub finish_of : ObjRef → RecorderValue → Event
@@ -140,10 +146,10 @@ handle_of serial known BadCompletion = None
 abbrev pub handle_made : ℕ → RequestOf HandleValue → Answer → Option HandleValue
 handle_made serial request answer = option_and_then (λ known. handle_of serial known answer) (info_asked request)
 
--- a recorder that was opened for an encoder and has kept nothing
-abbrev pub opened_for : ObjRef → RecorderValue
-opened_for encoder = record { device = encoder.device; targets = None; encoder = Some encoder; commands = []; takes = 0; passes = 0 }
+-- a recorder that was opened for an encoder of a device with these limits, and has kept nothing
+abbrev pub opened_for : Limits → ObjRef → RecorderValue
+opened_for limits encoder = record { maker = record { device = encoder.device; limits = limits }; targets = None; encoder = Some encoder; commands = []; takes = 0; passes = 0 }
 
--- a recorder that is open for a bundle encoder, draws to these targets, and has kept nothing
-abbrev pub opened_with : TargetInfo → ObjRef → RecorderValue
-opened_with targets encoder = record { device = encoder.device; targets = Some targets; encoder = Some encoder; commands = []; takes = 0; passes = 0 }
+-- a recorder that is open for a bundle encoder of such a device, draws to these targets, and has kept nothing
+abbrev pub opened_with : Limits → TargetInfo → ObjRef → RecorderValue
+opened_with limits targets encoder = record { maker = record { device = encoder.device; limits = limits }; targets = Some targets; encoder = Some encoder; commands = []; takes = 0; passes = 0 }

@@ -4,6 +4,7 @@ use Rattle.std.specs.Prelude.{ℕ, nat_lt, Bool, true, Option, Some, None}
 use Rattle.wg_types.specs.declared.handles.ObjRef.{ObjRef}
 use Rattle.wg_types.specs.declared.handles.Info.{Info}
 use Rattle.wg_types.specs.declared.handles.Info.TheVariants as info
+use Rattle.wg_types.specs.declared.limits.Limits.{Limits}
 use Rattle.wg_types.specs.declared.commands.On.{On}
 use Rattle.wg_types.specs.declared.commands.On.TheVariants.{Encoder, Pass}
 use Rattle.wg_types.specs.declared.requests.RequestOf.{RequestOf}
@@ -41,22 +42,22 @@ ended_by WorkDone = None
 ended_by (MapAsync buffer mode offset size) = None
 ended_by (Unmap buffer) = None
 
--- the recorder of an object that was made, if it is an encoder; that of a bundle encoder has its targets
-abbrev pub recorder_of : ObjRef → Info → Option RecorderValue
-recorder_of encoder info.Encoder = Some (opened_for encoder)
-recorder_of encoder (info.BundleEncoder targets) = Some (opened_with targets encoder)
-recorder_of encoder (info.Buffer known) = None
-recorder_of encoder (info.Texture known) = None
-recorder_of encoder (info.View known) = None
-recorder_of encoder (info.Sampler known) = None
-recorder_of encoder (info.GroupLayout known) = None
-recorder_of encoder (info.PipelineLayout known) = None
-recorder_of encoder (info.Group known) = None
-recorder_of encoder (info.Compute known) = None
-recorder_of encoder (info.Render known) = None
-recorder_of encoder (info.Queries known) = None
-recorder_of encoder info.CommandBuffer = None
-recorder_of encoder (info.Bundle known) = None
+-- the recorder of an object that a device with these limits made, if it is an encoder; that of a bundle encoder has its targets
+abbrev pub recorder_of : Limits → ObjRef → Info → Option RecorderValue
+recorder_of limits encoder info.Encoder = Some (opened_for limits encoder)
+recorder_of limits encoder (info.BundleEncoder targets) = Some (opened_with limits targets encoder)
+recorder_of limits encoder (info.Buffer known) = None
+recorder_of limits encoder (info.Texture known) = None
+recorder_of limits encoder (info.View known) = None
+recorder_of limits encoder (info.Sampler known) = None
+recorder_of limits encoder (info.GroupLayout known) = None
+recorder_of limits encoder (info.PipelineLayout known) = None
+recorder_of limits encoder (info.Group known) = None
+recorder_of limits encoder (info.Compute known) = None
+recorder_of limits encoder (info.Render known) = None
+recorder_of limits encoder (info.Queries known) = None
+recorder_of limits encoder info.CommandBuffer = None
+recorder_of limits encoder (info.Bundle known) = None
 
 -- whether what a command stands on was begun, where so many passes were
 abbrev pub is_begun : On → ℕ → Bool

@@ -2,13 +2,13 @@
 ghost use Rattle.std.specs.Prelude.{◌≡◌, [], Some, true, IfOk};
 ghost use Rattle.std.specs.Option.{is_some};
 ghost use Rattle.wg_types.specs.Requests.{kind_made};
-ghost use Rattle.wg_model.specs.Walk.{no_targets};
+ghost use Rattle.wg_model.specs.Walk.{no_limits, no_targets};
 ghost use Rattle.wg_history.specs.Entries.{effects_of};
 ghost use Rattle.wg_history.specs.declared.events.Form.TheVariants.{Queue};
 ghost use Rattle.wg_calls.specs.Calls.{reference_of, texture_if_valid, view_asked, event_asked};
 
 use std::alloc::Global;
-use wg_encoder::{Recorder, Recording, no_targets};
+use wg_encoder::{Recorder, Recording, no_limits, no_targets};
 use wg_entry::NoMemory;
 use wg_formats::{no_texture, size_or_rest, texture_of};
 use wg_history::events::Event;
@@ -53,10 +53,10 @@ pub fn view_asked(texture: &Handle, asked: ViewAsked) -> ViewDesc
 
 /// What a bundle encoder without a recorder hands over: no commands, which draw to nothing.
 pub fn empty_bundle(alloc: Global, device: u64) -> Result<Recording, NoMemory>
-    ensures { IfOk result (λ recording. recording ≡ record { device = device; targets = Some no_targets; commands = [] }) }
+    ensures { IfOk result (λ recording. recording ≡ record { maker = record { device = device; limits = no_limits }; targets = Some no_targets; commands = [] }) }
 {
     let targets = Shared::new(alloc, no_targets(alloc))?;
-    Ok(Recorder::bundle(alloc, device, targets).take())
+    Ok(Recorder::bundle(alloc, device, targets, &no_limits()).take())
 }
 
 /// The event that a call is that makes an object.
@@ -76,7 +76,7 @@ fn making_asked(alloc: Global, request: &RequestOf<Handle>) -> Result<Event, NoM
             entries: entries.share()?,
         }),
         RequestOf::CreatePipelineLayout { layouts } => Ok(Event::CreatePipelineLayout {
-            layouts: refs::map_items(alloc, &References, layouts.as_slice())?,
+            layouts: refs::map_maybes(alloc, &References, layouts.as_slice())?,
         }),
         RequestOf::CreateBindGroup { layout, entries } => Ok(Event::CreateBindGroup {
             layout: layout.reference(),
@@ -103,7 +103,7 @@ fn making_asked(alloc: Global, request: &RequestOf<Handle>) -> Result<Event, NoM
             let encoder = encoder.reference();
             Ok(Event::Finish {
                 encoder,
-                recording: Recorder::new(alloc, encoder.device).take(),
+                recording: Recorder::new(alloc, encoder.device, &no_limits()).take(),
             })
         }
         RequestOf::FinishBundle { encoder } => {

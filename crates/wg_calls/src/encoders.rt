@@ -9,6 +9,7 @@ use wg_encoder::Recorder;
 use wg_entry::NoMemory;
 use wg_types::commands::On;
 use wg_types::handles::{Info, ObjRef};
+use wg_types::limits::Limits;
 use wg_types::render::TargetInfo;
 use wg_types::requests::RequestOf;
 use wg_types::shared::Shared;
@@ -23,33 +24,45 @@ pub fn ended_by<R: Copy>(request: &RequestOf<R>) -> Option<R>
     }
 }
 
-/// A recorder that is open for an encoder. Whether this is valid is for its finish to tell. It takes no memory.
-pub fn recorder_for(alloc: Global, encoder: ObjRef) -> Recorder
-    ensures { result ≡ opened_for encoder }
+/// A recorder that is open for an encoder of a device with these limits. Whether this is valid is for its finish
+/// to tell. It takes no memory.
+pub fn recorder_for(alloc: Global, encoder: ObjRef, limits: &Limits) -> Recorder
+    ensures { result ≡ opened_for limits.now encoder }
 {
-    let mut recorder = Recorder::new(alloc, encoder.device);
+    let mut recorder = Recorder::new(alloc, encoder.device, limits);
     recorder.open(encoder, true);
     recorder
 }
 
-/// A recorder that is open for a bundle encoder, which draws to these targets. It takes no memory.
-pub fn bundle_recorder_for(alloc: Global, encoder: ObjRef, targets: Shared<TargetInfo>) -> Recorder
-    ensures { result ≡ opened_with targets encoder }
+/// A recorder that is open for a bundle encoder of a device with these limits, which draws to these targets. It
+/// takes no memory.
+pub fn bundle_recorder_for(
+    alloc: Global,
+    encoder: ObjRef,
+    targets: Shared<TargetInfo>,
+    limits: &Limits,
+) -> Recorder
+    ensures { result ≡ opened_with limits.now targets encoder }
 {
-    let mut recorder = Recorder::bundle(alloc, encoder.device, targets);
+    let mut recorder = Recorder::bundle(alloc, encoder.device, targets, limits);
     recorder.open(encoder, true);
     recorder
 }
 
-/// The recorder of a new object of which this is known, if it is an encoder.
-pub fn recorder_of(alloc: Global, object: ObjRef, info: &Info) -> Result<Option<Recorder>, NoMemory>
-    ensures { IfOk result (λ recorder. recorder ≡ recorder_of object info.now) }
+/// The recorder of a new object of a device with these limits, of which this is known, if it is an encoder.
+pub fn recorder_of(
+    alloc: Global,
+    object: ObjRef,
+    info: &Info,
+    limits: &Limits,
+) -> Result<Option<Recorder>, NoMemory>
+    ensures { IfOk result (λ recorder. recorder ≡ recorder_of limits.now object info.now) }
 {
     match info {
-        Info::Encoder => Ok(Some(recorder_for(alloc, object))),
+        Info::Encoder => Ok(Some(recorder_for(alloc, object, limits))),
         Info::BundleEncoder(targets) => {
             let targets = targets.share()?;
-            Ok(Some(bundle_recorder_for(alloc, object, targets)))
+            Ok(Some(bundle_recorder_for(alloc, object, targets, limits)))
         }
         Info::Buffer(_)
         | Info::Texture(_)

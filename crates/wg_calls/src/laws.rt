@@ -1,6 +1,7 @@
 //! The laws of calls, as the contracts of functions that do nothing.
 ghost use Rattle.wg_calls.specs.Genuine.{StaysGenuine, GroupsTellOwners};
 ghost use Rattle.wg_calls.specs.Infos.{InfoIsMade};
+ghost use Rattle.wg_calls.specs.Judged.{OpensForDevice, JudgesByDevice};
 
 /// Where the handles of what a call names know what the device knows, so much is known of what the call
 /// makes as of what its event makes.
@@ -19,4 +20,12 @@ pub fn stays_genuine()
 /// pipeline derived its layouts itself (WebGPU, "getBindGroupLayout").
 pub fn groups_tell_owners()
     ensures { GroupsTellOwners }
+{}
+
+/// The recorder of an encoder of a device, which is opened with the limits of the device, is of that device:
+/// so what ends it is judged by the device's number and limits, as those of the genuine handles that its
+/// commands name are.
+pub fn judged_by_device()
+    ensures opened { OpensForDevice }
+    ensures judged { JudgesByDevice }
 {}

@@ -6,8 +6,9 @@ use Rattle.wg_types.specs.Commands.{Command}
 use Rattle.wg_model.specs.Touches.{Touch, Doing}
 use Rattle.wg_model.specs.Settings.{Settings, pipeline_given, slot_after, group_given, unsets, depth_after}
 
--- what stands in slots after one more command, which may put something into a slot; the first of them has this number
-abbrev pub slots_after : {X : Type 0} → Option (ℕ × X) → ℕ → List (Option X) → List (Option X)
+-- what stands in slots after one more command, which may put something into a slot, or empty one; the first of them has this
+-- number
+abbrev pub slots_after : {X : Type 0} → Option (ℕ × Option X) → ℕ → List (Option X) → List (Option X)
 slots_after given at [] = []
 slots_after given at (slot ∷ slots) = slot_after given at slot ∷ slots_after given (at + 1) slots
 

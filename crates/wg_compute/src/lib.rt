@@ -10,7 +10,7 @@ mod settings;
 mod state;
 
 pub use brackets::{check_end, check_group, depth_after};
-pub use given::{GroupGiven, check_given, group_given, pipeline_given, unsets};
+pub use given::{GroupGiven, bound, check_given, group_given, pipeline_given, unsets};
 pub use indirect::{check_indirect, indirect_touch};
 pub use settings::Settings;
 pub use state::ComputeState;

@@ -6,7 +6,7 @@ ghost use Rattle.wg_model.specs.Settings.{layouts_set, owner_set, ready_rules};
 ghost use Rattle.wg_compute.specs.After.{slots_after, emptied, settings_after};
 
 use crate::brackets::depth_after;
-use crate::given::{GroupGiven, group_given, pipeline_given, unsets};
+use crate::given::{GroupGiven, bound, group_given, pipeline_given, unsets};
 use std::marker::Model;
 use wg_layouts::{check_bound, layouts_in, owner_of};
 use wg_rules::PIPELINE_IS_SET;
@@ -111,16 +111,16 @@ impl Settings {
         }
     }
 
-    /// Sets a group at its index. There is no index past the last, so nothing is set there.
+    /// Sets a group at its index, or unsets what is there. There is no index past the last, so nothing is set
+    /// there.
     #[tactic(auto, using(crate::proofs::Slots::slots_unset))]
     fn set_group(&mut self, given: Option<GroupGiven>) -> Result<(), NoMemory>
         ensures ok { OnOk result (self.new ≡ record self.old { groups = slots_after given.entry 0 self.old.groups }) }
         ensures err { OnErr result (self.new ≡ self.old) }
     {
         let Some(given) = given else { return Ok(()) };
-        let group = given.group.share()?;
-        let offsets = given.offsets.share()?;
-        put(&mut self.groups, given.index, BoundGroup { group, offsets });
+        let group = bound(&given)?;
+        put(&mut self.groups, given.index, group);
         Ok(())
     }
 
@@ -153,13 +153,13 @@ impl Settings {
     }
 }
 
-/// Puts a group into the slot with its index, if there is one.
+/// Puts a group, or none, into the slot with its index, if there is one.
 #[tactic(auto, using(crate::proofs::Slots::slot_set, crate::proofs::Slots::slots_past))]
-fn put(groups: &mut [Option<BoundGroup>], index: u32, group: BoundGroup)
+fn put(groups: &mut [Option<BoundGroup>], index: u32, group: Option<BoundGroup>)
     ensures { groups.new ≡ slots_after (Some (index, group)) 0 groups.old }
 {
     if (index as usize) < groups.len() {
-        groups[index as usize] = Some(group);
+        groups[index as usize] = group;
     }
 }
 

@@ -92,6 +92,7 @@ pub fn check(command: &Command) -> Option<u16>
         | Command::BeginRenderPass { .. }
         | Command::PushDebugGroup
         | Command::PopDebugGroup
+        | Command::InsertDebugMarker
         | Command::End
         | Command::SetPipeline { .. }
         | Command::SetBindGroup { .. }
@@ -105,6 +106,10 @@ pub fn check(command: &Command) -> Option<u16>
         | Command::DrawIndexedIndirect { .. }
         | Command::BeginOcclusionQuery { .. }
         | Command::EndOcclusionQuery
-        | Command::ExecuteBundles { .. } => return None,
+        | Command::ExecuteBundles { .. }
+        | Command::SetViewport { .. }
+        | Command::SetScissorRect { .. }
+        | Command::SetBlendConstant
+        | Command::SetStencilReference => return None,
     }
 }

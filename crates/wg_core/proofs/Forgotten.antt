@@ -1,11 +1,11 @@
 -- What was let go is not read: what an event names and what a submit uses was not, and commands of an open encoder may not name it.
 use Rattle.std.proofs.Common.{◌≡◌, ℕ, Bool, true, false, not, ◌&&◌, ◌||◌, ◌==◌, nat_lt, List, [], ◌∷◌, map, Option, Some, None, is_some, is_none, option_to_list, inl, inr, refl, sym, ap, ap₂, ◌∙◌, if◌then◌else◌, true≢false}
 use Rattle.std.specs.Option.{option_map_or, option_or}
-use Rattle.std.specs.List.{list_any}
+use Rattle.std.specs.List.{list_any, flat_map}
 use Rattle.std.proofs.lemmas.Bool.{cases_lt, lt-ltb, ltb-true, eq-eqb, false_from_ne_true}
 use Rattle.wg_fading.specs.Fading.{was_let_go}
 use Rattle.wg_rules.specs.declared.TheConstants.{OBJECT_IS_OF_DEVICE, OBJECT_IS_NOT_DROPPED, OBJECT_IS_VALID}
-use Rattle.wg_types.specs.Refs.{first_of, all_wanted, maybe_wanted}
+use Rattle.wg_types.specs.Refs.{first_of, some_wanted, maybe_wanted}
 use Rattle.wg_types.specs.Handles.{HandleValue}
 use Rattle.wg_types.specs.Wanted.{admits}
 use Rattle.wg_types.specs.Kinds.{kind_of}
@@ -83,11 +83,14 @@ named_as gone setup past (object ∷ objects) none =
 pub named_here : (gone : List ℕ) (setup : Setup) (past : Past) (objects : List (ObjRef × Wanted)) → any_gone gone (map (λ named. named.0) objects) ≡ false → first_of (rule_here gone setup past) objects ≡ first_unmet (named_rules setup past objects)
 named_here gone setup past objects none = named_as gone setup past objects none ∙ named_found setup past objects
 
-pub all_here : (gone : List ℕ) (w : Wanted) (objects : List ObjRef) → any_gone gone objects ≡ false → any_gone gone (map (λ named. named.0) (all_wanted w objects)) ≡ false
-all_here gone w [] none = refl
-all_here gone w (object ∷ objects) none =
-    let both = or_parts (was_let_go gone object.number) (any_gone gone objects) none in
-    ap₂ ◌||◌ both.left (all_here gone w objects both.right)
+some_named : (w : Wanted) (objects : List (Option ObjRef)) → map (λ named. named.0) (some_wanted w objects) ≡ flat_map option_to_list objects
+some_named w [] = refl
+some_named w (None ∷ objects) = some_named w objects
+some_named w (Some object ∷ objects) = ap (λ rest. object ∷ rest) (some_named w objects)
+
+-- nor are those that may be left out
+pub some_here : (gone : List ℕ) (w : Wanted) (objects : List (Option ObjRef)) → any_gone gone (flat_map option_to_list objects) ≡ false → any_gone gone (map (λ named. named.0) (some_wanted w objects)) ≡ false
+some_here gone w objects none = ap (any_gone gone) (some_named w objects) ∙ none
 
 pub maybe_here : (gone : List ℕ) (setup : Setup) (past : Past) (w : Wanted) (o : Option ObjRef) → any_gone gone (option_to_list o) ≡ false → first_of (rule_here gone setup past) (maybe_wanted w o) ≡ first_unmet (named_rules setup past (maybe_wanted w o))
 maybe_here gone setup past w None none = named_here gone setup past [] refl

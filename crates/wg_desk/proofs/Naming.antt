@@ -5,7 +5,7 @@ use Rattle.std.specs.List.{list_any}
 use Rattle.std.proofs.lemmas.Bool.{or_parts}
 use Rattle.std.proofs.lemmas.List.Elements.{All-nil, All-cons, All-map}
 use Rattle.wg_types.specs.Handles.{HandleValue}
-use Rattle.wg_types.specs.Refs.{all_wanted, maybe_wanted}
+use Rattle.wg_types.specs.Refs.{all_wanted, some_wanted, maybe_wanted}
 use Rattle.wg_types.specs.Bindings.{resource_named, map_resource, map_entry, entries_named}
 use Rattle.wg_types.specs.Requests.{named, map_refs}
 use Rattle.wg_types.specs.declared.bindings.ResourceOf.{ResourceOf}
@@ -32,6 +32,11 @@ all_stand : (f : ℕ → HandleValue) (asked : Wanted) (numbers : List ℕ) → 
 all_stand f asked [] = refl
 all_stand f asked (n ∷ numbers) = ap (λ rest. (f n, asked) ∷ rest) (all_stand f asked numbers)
 
+some_stand : (f : ℕ → HandleValue) (asked : Wanted) (numbers : List (Option ℕ)) → some_wanted asked (map (option_map f) numbers) ≡ map (standing f) (some_wanted asked numbers)
+some_stand f asked [] = refl
+some_stand f asked (None ∷ numbers) = some_stand f asked numbers
+some_stand f asked (Some n ∷ numbers) = ap (λ rest. (f n, asked) ∷ rest) (some_stand f asked numbers)
+
 maybe_stands : (f : ℕ → HandleValue) (asked : Wanted) (number : Option ℕ) → maybe_wanted asked (option_map f number) ≡ map (standing f) (maybe_wanted asked number)
 maybe_stands f asked None = refl
 maybe_stands f asked (Some n) = refl
@@ -51,7 +56,7 @@ named_stand f (CreateTexture made) = refl
 named_stand f (CreateView texture asked) = refl
 named_stand f (CreateSampler made) = refl
 named_stand f (CreateBindGroupLayout entries) = refl
-named_stand f (CreatePipelineLayout layouts) = all_stand f wanted.GroupLayout layouts
+named_stand f (CreatePipelineLayout layouts) = some_stand f wanted.GroupLayout layouts
 named_stand f (CreateBindGroup layout entries) = ap (λ rest. (f layout, wanted.GroupLayout) ∷ rest) (entries_stand f entries)
 named_stand f (CreateComputePipeline layout iface) = maybe_stands f wanted.PipelineLayout layout
 named_stand f (CreateRenderPipeline layout desc) = maybe_stands f wanted.PipelineLayout layout

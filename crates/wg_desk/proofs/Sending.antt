@@ -2,12 +2,12 @@
 use Rattle.std.proofs.Common.{◌≡◌, ℕ, Bool, true, false, not, ◌&&◌, ◌||◌, List, [], ◌∷◌, ◌++◌, map, reverse, Option, Some, None, is_some, is_none, refl, ap, ap₂, sym, subst, ◌∙◌, true≢false, if◌then◌else◌}
 use Rattle.std.specs.Prelude.{All, option_map, option_to_list}
 use Rattle.std.specs.Option.{option_map_or}
-use Rattle.std.specs.List.{list_any}
+use Rattle.std.specs.List.{flat_map, list_any}
 use Rattle.std.proofs.lemmas.Bool.{or_parts}
 use Rattle.std.proofs.lemmas.List.Elements.{All-weaker, All-nil, All-cons}
 use Rattle.wg_fading.specs.Fading.{was_let_go}
 use Rattle.wg_types.specs.Handles.{HandleValue}
-use Rattle.wg_types.specs.Refs.{all_wanted, maybe_wanted}
+use Rattle.wg_types.specs.Refs.{all_wanted, some_wanted, maybe_wanted}
 use Rattle.wg_types.specs.Bindings.{resource_named, map_resource, map_entry, entries_named}
 use Rattle.wg_types.specs.declared.bindings.ResourceOf.{ResourceOf}
 use Rattle.wg_types.specs.declared.bindings.ResourceOf.TheVariants.{Buffer, View, Sampler}
@@ -162,6 +162,11 @@ objects_asked : (p : ObjRef → Bool) (asked : Wanted) (objects : List HandleVal
 objects_asked p asked [] = refl
 objects_asked p asked (object ∷ objects) = ap (λ (b : Bool). p object.reference || b) (objects_asked p asked objects)
 
+some_asked : (p : ObjRef → Bool) (asked : Wanted) (objects : List (Option HandleValue)) → list_any p (flat_map option_to_list (map (option_map reference_of) objects) ++ []) ≡ list_any (λ (used : HandleValue × Wanted). p used.0.reference) (some_wanted asked objects)
+some_asked p asked [] = refl
+some_asked p asked (None ∷ objects) = some_asked p asked objects
+some_asked p asked (Some object ∷ objects) = ap (λ (b : Bool). p object.reference || b) (some_asked p asked objects)
+
 maybe_asked : (p : ObjRef → Bool) (asked : Wanted) (object : Option HandleValue) → list_any p (option_to_list (option_map reference_of object) ++ []) ≡ list_any (λ (used : HandleValue × Wanted). p used.0.reference) (maybe_wanted asked object)
 maybe_asked p asked None = refl
 maybe_asked p asked (Some object) = refl
@@ -178,7 +183,7 @@ entries_asked p (entry ∷ entries) = ap₂ (λ (object : ObjRef) (b : Bool). p 
 
 -- the event of a call names what the call does
 pub asked_names : (setup : Setup) (past : Past) (request : RequestOf HandleValue) → any_dropped setup past (named_by (event_asked request)) ≡ names_dropped setup past (named request)
-asked_names setup past (CreatePipelineLayout layouts) = objects_asked (λ (object : ObjRef). is_dropped setup past object.number) wanted.GroupLayout layouts
+asked_names setup past (CreatePipelineLayout layouts) = some_asked (λ (object : ObjRef). is_dropped setup past object.number) wanted.GroupLayout layouts
 asked_names setup past (CreateBindGroup layout entries) = ap (λ (b : Bool). is_dropped setup past layout.reference.number || b) (entries_asked (λ (object : ObjRef). is_dropped setup past object.number) entries)
 asked_names setup past (CreateComputePipeline layout iface) = maybe_asked (λ (object : ObjRef). is_dropped setup past object.number) wanted.PipelineLayout layout
 asked_names setup past (CreateRenderPipeline layout desc) = maybe_asked (λ (object : ObjRef). is_dropped setup past object.number) wanted.PipelineLayout layout

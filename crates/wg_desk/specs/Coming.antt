@@ -3,6 +3,7 @@ use Rattle.std.specs.Prelude.{ℕ, Option, Some, None, option_map}
 use Rattle.std.specs.Arc.{arc_value}
 use Rattle.wg_types.specs.declared.handles.ObjRef.{ObjRef}
 use Rattle.wg_types.specs.declared.handles.Info.{Info}
+use Rattle.wg_types.specs.declared.limits.Limits.{Limits}
 use Rattle.wg_trace.specs.declared.replies.Answer.{Answer}
 use Rattle.wg_encoder.specs.Recorders.{RecorderValue}
 use Rattle.wg_calls.specs.Calls.{handle_of}
@@ -10,9 +11,9 @@ use Rattle.wg_calls.specs.Encoders.{recorder_of}
 use Rattle.wg_desk.specs.declared.seats.Seat.{Seat}
 use Rattle.wg_desk.specs.declared.making.Coming.{Coming}
 
--- what is known of an object that will have this reference, and its recorder
-abbrev pub known_of : ObjRef → Info → Info × Option RecorderValue
-known_of reference known = (known, recorder_of reference known)
+-- what is known of an object that will have this reference on a device with these limits, and its recorder
+abbrev pub known_of : Limits → ObjRef → Info → Info × Option RecorderValue
+known_of limits reference known = (known, recorder_of limits reference known)
 
 -- what is known of an object that is about to be made, and its recorder, if one is
 abbrev pub expected : Option Coming → Option (Info × Option RecorderValue)

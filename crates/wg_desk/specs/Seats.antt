@@ -7,6 +7,7 @@ use Rattle.wg_types.specs.Handles.{HandleValue}
 use Rattle.wg_types.specs.Commands.{Command}
 use Rattle.wg_types.specs.declared.handles.Info.{Info}
 use Rattle.wg_types.specs.declared.handles.Info.TheVariants as info
+use Rattle.wg_types.specs.declared.limits.Limits.{Limits}
 use Rattle.wg_types.specs.declared.commands.On.{On}
 use Rattle.wg_trace.specs.declared.replies.Answer.{Answer}
 use Rattle.wg_types.specs.declared.wanted.Wanted.{Wanted}
@@ -17,6 +18,7 @@ use Rattle.wg_history.specs.Objects.{count}
 use Rattle.wg_history.specs.Rules.{is_dropped, is_genuine}
 use Rattle.wg_calls.specs.Calls.{handle_of}
 use Rattle.wg_calls.specs.Encoders.{recorder_of, is_begun}
+use Rattle.wg_calls.specs.Judged.{IsRecorderOf}
 use Rattle.wg_desk.specs.declared.seats.Seat.{Seat}
 
 -- what contracts see of all seats: each by its number, and for how many more there is room
@@ -104,21 +106,22 @@ emptied seat = vacant
 abbrev pub emptied_at : List Seat → ℕ → List Seat
 emptied_at seats n = changed_at seats n emptied
 
--- what is kept of an object that was made
-abbrev pub seat_of : HandleValue → Seat
-seat_of handle = record { handle = Some handle; recorder = recorder_of handle.reference handle.info }
+-- what is kept of an object that a device with these limits made
+abbrev pub seat_of : Limits → HandleValue → Seat
+seat_of limits handle = record { handle = Some handle; recorder = recorder_of limits handle.reference handle.info }
 
--- what is kept of what an answer made, of which so much is known
-abbrev pub seat_made : ℕ → Option Info → Answer → Option Seat
-seat_made serial known answer = option_map seat_of (option_and_then (λ known. handle_of serial known answer) known)
+-- what is kept of what an answer of a device made, of which so much is known
+abbrev pub seat_made : Setup → Option Info → Answer → Option Seat
+seat_made setup known answer = option_map (seat_of setup.limits) (option_and_then (λ known. handle_of setup.serial known answer) known)
 
 -- What is kept at number n after a history: a handle that is genuine and of object n, which was not dropped, if one, and a recorder
--- that was not taken from, if one.
+-- that was not taken from, if one. That is of the device, so that its end is judged by the limits of the device.
 pub record IsSeated (setup : Setup) (history : List Entry) (n : ℕ) (seat : Seat) : Type 0 where
   pub genuine : IfSome seat.handle (λ handle. is_genuine setup (reverse history) handle ≡ true)
   pub number : IfSome seat.handle (λ handle. handle.reference.number ≡ n)
   pub undropped : IfSome seat.handle (λ _. is_dropped setup (reverse history) n ≡ false)
   pub open_still : IfSome seat.recorder (λ recorder. recorder.takes ≡ 0)
+  pub own : IfSome seat.recorder (λ recorder. IsRecorderOf setup recorder)
 
 -- There is a seat for each object that was made, and each handle is genuine and of the object of its number, which was not dropped.
 pub record AreSeated (setup : Setup) (history : List Entry) (seats : List Seat) : Type 0 where

@@ -9,6 +9,7 @@ use Rattle.wg_trace.specs.declared.replies.Answer.{Answer}
 use Rattle.wg_types.specs.declared.requests.RequestOf.{RequestOf}
 use Rattle.wg_types.specs.declared.requests.RequestOf.TheVariants.{CreateBuffer, CreateTexture, CreateView, CreateSampler, CreateBindGroupLayout, CreatePipelineLayout, CreateBindGroup, CreateComputePipeline, CreateRenderPipeline, GetBindGroupLayout, CreateQuerySet, CreateEncoder, CreateBundleEncoder, Finish, FinishBundle, Submit, WriteBuffer, WriteTexture, Destroy, Drop, Complete, PushErrorScope, PopErrorScope, Lose, WorkDone, MapAsync, Unmap}
 use Rattle.wg_encoder.specs.Recorders.{RecorderValue, RecordingValue}
+use Rattle.wg_history.specs.declared.events.Setup.{Setup}
 use Rattle.wg_history.specs.declared.events.Event.{Event}
 use Rattle.wg_history.specs.declared.events.Event.TheVariants as event
 use Rattle.wg_history.specs.Entries.{effects_of}
@@ -101,17 +102,17 @@ event_sent seats request = option_map_or (ending_at seats) (ended_by request) (e
 -- the object that it drops nothing is kept.
 
 -- the seats after an end that was answered so
-abbrev pub seats_ended : ℕ → List Seat → ℕ → Answer → List Seat
-seats_ended serial seats encoder answer = closed_at seats encoder ++ option_to_list (seat_made serial (ending_known_at seats encoder) answer)
+abbrev pub seats_ended : Setup → List Seat → ℕ → Answer → List Seat
+seats_ended setup seats encoder answer = closed_at seats encoder ++ option_to_list (seat_made setup (ending_known_at seats encoder) answer)
 
 -- the seats with what a call made that was answered so
-abbrev pub seats_asked : ℕ → List Seat → RequestOf ℕ → Answer → List Seat
-seats_asked serial seats request answer = seats ++ option_to_list (seat_made serial (info_asked (map_refs (found_at seats) request)) answer)
+abbrev pub seats_asked : Setup → List Seat → RequestOf ℕ → Answer → List Seat
+seats_asked setup seats request answer = seats ++ option_to_list (seat_made setup (info_asked (map_refs (found_at seats) request)) answer)
 
 -- the seats after a call that was answered so, without the object that it drops
-abbrev pub seats_left : ℕ → List Seat → RequestOf ℕ → Answer → List Seat
-seats_left serial seats request answer = option_map_or (emptied_at (seats_asked serial seats request answer)) (dropped_by request) (seats_asked serial seats request answer)
+abbrev pub seats_left : Setup → List Seat → RequestOf ℕ → Answer → List Seat
+seats_left setup seats request answer = option_map_or (emptied_at (seats_asked setup seats request answer)) (dropped_by request) (seats_asked setup seats request answer)
 
 -- the seats after any call that was answered so
-abbrev pub seats_after : ℕ → List Seat → RequestOf ℕ → Answer → List Seat
-seats_after serial seats request answer = option_map_or (λ encoder. seats_ended serial seats encoder answer) (ended_by request) (seats_left serial seats request answer)
+abbrev pub seats_after : Setup → List Seat → RequestOf ℕ → Answer → List Seat
+seats_after setup seats request answer = option_map_or (λ encoder. seats_ended setup seats encoder answer) (ended_by request) (seats_left setup seats request answer)

@@ -8,6 +8,7 @@ ghost use Rattle.wg_history.specs.Answers.{Run};
 ghost use Rattle.wg_history.specs.Rules.{is_dropped, is_genuine};
 ghost use Rattle.wg_state.specs.Gone.{named_by};
 ghost use Rattle.wg_calls.specs.Calls.{event_asked, info_asked, finish_event, finished_info, finish_of, known_of_finish};
+ghost use Rattle.wg_calls.specs.Judged.{IsRecorderOf};
 ghost use Rattle.wg_desk.specs.Seats.{handle_at, found_at, passes_at, any_missing, is_unbegun, is_late_at, recorded_at, reopened_at, seat_made, AreSeated};
 ghost use Rattle.wg_desk.specs.Sent.{ending_asked, ending_at, event_sent, left_after, seats_ended, seats_left, seats_after};
 ghost use Rattle.wg_desk.specs.Desks.{any_dropped, names_dropped, MakesGenuine, HasSent, HandsOutGrowth, FindsUnsetOn, IsUnchanged, IsDue, IsNumber};
@@ -60,6 +61,7 @@ pub struct Desk {
     core: FadingCore,
     alloc: Global,
     serial: u64,
+    limits: Limits,
     seats: Seats,
     spent: Spent,
 }
@@ -75,6 +77,7 @@ impl Model for Desk {
 
     ghost invariant = { λ d. record {
       serial_is : d.serial ≡ d.core.setup.serial;
+      limits_is : d.limits ≡ d.core.setup.limits;
       seated : AreSeated d.core.setup d.core.history d.seats.items;
     } };
 }
@@ -91,6 +94,7 @@ impl Desk {
             core: FadingCore::new(alloc, budget, serial, limits),
             alloc,
             serial,
+            limits: *limits,
             seats: Seats::new(alloc),
             spent: Spent::new(alloc),
         }
@@ -106,7 +110,8 @@ impl Desk {
     }
 
     /// What holds of a desk at all times: its history is a run, there is a place for each object that was
-    /// made, and each handle is genuine and of the object of its number, which was not dropped.
+    /// made, each handle is genuine and of the object of its number, which was not dropped, and each recorder is
+    /// of the device, by whose number and limits its end is judged.
     pub fn holds(&self)
         ensures run { Run self.now.setup self.now.history }
         ensures seated { AreSeated self.now.setup self.now.history self.now.seats }
@@ -163,7 +168,7 @@ impl Desk {
         ensures setup { self.new.setup ≡ self.old.setup }
         ensures done { IfOk result (λ reply. HasSent self.old self.new who event reply) }
         ensures items { OnOk result (HandsOutGrowth self.old self.new items.old.items items.new.items) }
-        ensures seats { IfOk result (λ reply. self.new.seats ≡ left_after event (self.old.seats ++ option_to_list (seat_made self.old.setup.serial info reply.answer))) }
+        ensures seats { IfOk result (λ reply. self.new.seats ≡ left_after event (self.old.seats ++ option_to_list (seat_made self.old.setup info reply.answer))) }
         ensures back { IfErr result (λ refused. refused.call ≡ event) }
         ensures unchanged { OnErr result (IsUnchanged self.old self.new) }
         ensures no_items { OnErr result (items.new.items ≡ items.old.items) }
@@ -175,7 +180,7 @@ impl Desk {
             device: self.serial,
             number: self.seats.len(),
         };
-        let Ok(coming) = prepare(self.alloc, reference, info) else {
+        let Ok(coming) = prepare(self.alloc, reference, info, &self.limits) else {
             return Err(Refused { call: event });
         };
         let dropped = dropped_number(&event);
@@ -199,7 +204,7 @@ impl Desk {
         ensures setup { self.new.setup ≡ self.old.setup }
         ensures done { IfOk result (λ reply. HasSent self.old self.new who (event_asked request.now) reply) }
         ensures items { OnOk result (HandsOutGrowth self.old self.new items.old.items items.new.items) }
-        ensures seats { IfOk result (λ reply. self.new.seats ≡ left_after (event_asked request.now) (self.old.seats ++ option_to_list (seat_made self.old.setup.serial (info_asked request.now) reply.answer))) }
+        ensures seats { IfOk result (λ reply. self.new.seats ≡ left_after (event_asked request.now) (self.old.seats ++ option_to_list (seat_made self.old.setup (info_asked request.now) reply.answer))) }
         ensures unchanged { OnErr result (IsUnchanged self.old self.new) }
         ensures no_items { OnErr result (items.new.items ≡ items.old.items) }
     {
@@ -223,7 +228,7 @@ impl Desk {
         ensures setup { self.new.setup ≡ self.old.setup }
         ensures done { IfOk result (λ reply. HasSent self.old self.new who (event_asked request) reply) }
         ensures items { OnOk result (HandsOutGrowth self.old self.new items.old.items items.new.items) }
-        ensures seats { IfOk result (λ reply. self.new.seats ≡ left_after (event_asked request) (self.old.seats ++ option_to_list (seat_made self.old.setup.serial (info_asked request) reply.answer))) }
+        ensures seats { IfOk result (λ reply. self.new.seats ≡ left_after (event_asked request) (self.old.seats ++ option_to_list (seat_made self.old.setup (info_asked request) reply.answer))) }
         ensures unchanged { OnErr result (IsUnchanged self.old self.new) }
         ensures no_items { OnErr result (items.new.items ≡ items.old.items) }
     {
@@ -241,7 +246,7 @@ impl Desk {
         ensures setup { self.new.setup ≡ self.old.setup }
         ensures done { IfOk result (λ reply. HasSent self.old self.new who (event_asked (map_refs (found_at self.old.seats) request.now)) reply) }
         ensures items { OnOk result (HandsOutGrowth self.old self.new items.old.items items.new.items) }
-        ensures seats { IfOk result (λ reply. self.new.seats ≡ seats_left self.old.setup.serial self.old.seats request.now reply.answer) }
+        ensures seats { IfOk result (λ reply. self.new.seats ≡ seats_left self.old.setup self.old.seats request.now reply.answer) }
         ensures unchanged { OnErr result (IsUnchanged self.old self.new) }
         ensures no_items { OnErr result (items.new.items ≡ items.old.items) }
     {
@@ -276,7 +281,7 @@ impl Desk {
         ensures setup { self.new.setup ≡ self.old.setup }
         ensures done { IfOk result (λ reply. HasSent self.old self.new who (finish_event recording.targets encoder recording) reply) }
         ensures items { OnOk result (HandsOutGrowth self.old self.new items.old.items items.new.items) }
-        ensures seats { IfOk result (λ reply. self.new.seats ≡ self.old.seats ++ option_to_list (seat_made self.old.setup.serial (Some (finished_info recording.targets recording)) reply.answer)) }
+        ensures seats { IfOk result (λ reply. self.new.seats ≡ self.old.seats ++ option_to_list (seat_made self.old.setup (Some (finished_info recording.targets recording)) reply.answer)) }
         ensures back { IfErr result (λ back. back ≡ recording) }
         ensures unchanged { OnErr result (IsUnchanged self.old self.new) }
         ensures no_items { OnErr result (items.new.items ≡ items.old.items) }
@@ -300,12 +305,13 @@ impl Desk {
         items: &mut Vec<Item>,
     ) -> Result<Reply, NoMemory>
         requires open { recorder.takes ≡ 0 }
+        requires own { IsRecorderOf self.old.setup recorder }
         requires undropped { is_dropped self.old.setup (reverse self.old.history) encoder.number ≡ false }
         requires seated { is_some (handle_at self.old.seats number) ≡ true }
         ensures setup { self.new.setup ≡ self.old.setup }
         ensures done { IfOk result (λ reply. HasSent self.old self.new who (finish_of encoder recorder) reply) }
         ensures items { OnOk result (HandsOutGrowth self.old self.new items.old.items items.new.items) }
-        ensures seats { IfOk result (λ reply. self.new.seats ≡ self.old.seats ++ option_to_list (seat_made self.old.setup.serial (Some (known_of_finish recorder)) reply.answer)) }
+        ensures seats { IfOk result (λ reply. self.new.seats ≡ self.old.seats ++ option_to_list (seat_made self.old.setup (Some (known_of_finish recorder)) reply.answer)) }
         ensures history { OnErr result (self.new.history ≡ self.old.history) }
         ensures reopened { OnErr result (self.new.seats ≡ reopened_at self.old.seats number recorder) }
         ensures no_items { OnErr result (items.new.items ≡ items.old.items) }
@@ -333,7 +339,7 @@ impl Desk {
         ensures setup { self.new.setup ≡ self.old.setup }
         ensures done { IfOk result (λ reply. HasSent self.old self.new who (event_asked (ending_asked encoder)) reply) }
         ensures items { OnOk result (HandsOutGrowth self.old self.new items.old.items items.new.items) }
-        ensures seats { IfOk result (λ reply. self.new.seats ≡ self.old.seats ++ option_to_list (seat_made self.old.setup.serial (info_asked (ending_asked encoder)) reply.answer)) }
+        ensures seats { IfOk result (λ reply. self.new.seats ≡ self.old.seats ++ option_to_list (seat_made self.old.setup (info_asked (ending_asked encoder)) reply.answer)) }
         ensures unchanged { OnErr result (IsUnchanged self.old self.new) }
         ensures no_items { OnErr result (items.new.items ≡ items.old.items) }
     {
@@ -347,7 +353,7 @@ impl Desk {
         ensures setup { self.new.setup ≡ self.old.setup }
         ensures done { IfOk result (λ reply. HasSent self.old self.new who (ending_at self.old.seats number) reply) }
         ensures items { OnOk result (HandsOutGrowth self.old self.new items.old.items items.new.items) }
-        ensures seats { IfOk result (λ reply. self.new.seats ≡ seats_ended self.old.setup.serial self.old.seats number reply.answer) }
+        ensures seats { IfOk result (λ reply. self.new.seats ≡ seats_ended self.old.setup self.old.seats number reply.answer) }
         ensures unchanged { OnErr result (IsUnchanged self.old self.new) }
         ensures no_items { OnErr result (items.new.items ≡ items.old.items) }
     {
@@ -374,7 +380,7 @@ impl Desk {
         ensures done { IfOk result (λ reply. HasSent self.old self.new who (ending_at self.old.seats encoder) reply) }
         ensures number { IfOk result (λ reply. IsNumber reply.answer (length self.old.seats)) }
         ensures items { OnOk result (HandsOutGrowth self.old self.new items.old.items items.new.items) }
-        ensures seats { IfOk result (λ reply. self.new.seats ≡ seats_ended self.old.setup.serial self.old.seats encoder reply.answer) }
+        ensures seats { IfOk result (λ reply. self.new.seats ≡ seats_ended self.old.setup self.old.seats encoder reply.answer) }
         ensures found { OnOk result (is_none (handle_at self.old.seats encoder) ≡ false) }
         ensures due { IfErr result (λ error. IsDue error (is_none (handle_at self.old.seats encoder)) false) }
         ensures unchanged { OnErr result (IsUnchanged self.old self.new) }
@@ -399,7 +405,7 @@ impl Desk {
         ensures done { IfOk result (λ reply. HasSent self.old self.new who (event_sent self.old.seats request.now) reply) }
         ensures number { IfOk result (λ reply. IsNumber reply.answer (length self.old.seats)) }
         ensures items { OnOk result (HandsOutGrowth self.old self.new items.old.items items.new.items) }
-        ensures seats { IfOk result (λ reply. self.new.seats ≡ seats_after self.old.setup.serial self.old.seats request.now reply.answer) }
+        ensures seats { IfOk result (λ reply. self.new.seats ≡ seats_after self.old.setup self.old.seats request.now reply.answer) }
         ensures found { OnOk result (any_missing self.old.seats (named request.now) ≡ false) }
         ensures due { IfErr result (λ error. IsDue error (any_missing self.old.seats (named request.now)) false) }
         ensures unchanged { OnErr result (IsUnchanged self.old self.new) }

@@ -9,6 +9,7 @@ use wg_calls::{handle_of, recorder_of};
 use wg_encoder::Recorder;
 use wg_entry::NoMemory;
 use wg_types::handles::{Info, ObjRef};
+use wg_types::limits::Limits;
 use wg_types::replies::Answer;
 
 /// What is kept of an object that a call will make, but for its handle: what is known of it, and its
@@ -19,18 +20,19 @@ pub struct Coming {
     recorder: Option<Recorder>,
 }
 
-/// What will be kept of an object of which so much is known, if a call makes one.
+/// What will be kept of an object of a device with these limits, of which so much is known, if a call makes one.
 pub fn prepare(
     alloc: Global,
     reference: ObjRef,
     info: Option<Info>,
+    limits: &Limits,
 ) -> Result<Option<Coming>, NoMemory>
-    ensures { IfOk result (λ coming. expected coming ≡ option_map (known_of reference) info) }
+    ensures { IfOk result (λ coming. expected coming ≡ option_map (known_of limits.now reference) info) }
 {
     let Some(info) = info else {
         return Ok(None);
     };
-    let recorder = recorder_of(alloc, reference, &info)?;
+    let recorder = recorder_of(alloc, reference, &info, limits)?;
     let info = Arc::new(alloc, info)?;
     Ok(Some(Coming { info, recorder }))
 }

@@ -1,10 +1,10 @@
 -- What the last entry of a pass's history says of the handle that its call gives.
-use Rattle.std.proofs.Common.{◌≡◌, List, [], ◌∷◌, ◌++◌, reverse, true, Option, Some, None, is_some, Result, Ok, Err, refl, ap, sym, ◌∙◌, subst}
+use Rattle.std.proofs.Common.{◌≡◌, ℕ, List, [], ◌∷◌, ◌++◌, reverse, true, Option, Some, None, is_some, Result, Ok, Err, refl, ap, sym, ◌∙◌, subst}
 use Rattle.std.specs.Prelude.{All, IfSome, IfOk}
 use Rattle.std.proofs.lemmas.List.{reverse-append}
 use Rattle.std.proofs.lemmas.List.Elements.{All-nil, All-cons, All-head, All-tail}
 use Rattle.wg_types.specs.Handles.{HandleValue}
-use Rattle.wg_types.specs.Refs.{all_wanted, maybe_wanted}
+use Rattle.wg_types.specs.Refs.{some_wanted, maybe_wanted}
 use Rattle.wg_types.specs.Bindings.{entries_named}
 use Rattle.wg_types.specs.declared.bindings.GroupEntryOf.{GroupEntryOf}
 use Rattle.wg_types.specs.Requests.{named, kind_made}
@@ -22,10 +22,12 @@ use Rattle.wg_history.specs.Answers.{reply_to, IsRun}
 use Rattle.wg_history.proofs.Runs.{newest}
 use Rattle.wg_turn.specs.Entries.{entry}
 use Rattle.wg_turn.specs.Passes.{number_of}
-use Rattle.wg_calls.specs.Calls.{event_asked, handle_of, handle_made, finish_of, known_of_finish, recording_of}
+use Rattle.wg_calls.specs.Calls.{event_asked, info_asked, handle_of, handle_made, finish_of, known_of_finish, recording_of}
+use Rattle.wg_calls.specs.Judged.{IsRecorderOf}
+use Rattle.wg_calls.proofs.Judged.{made_device}
 use Rattle.wg_calls.proofs.Genuine.{genuine_made, gives_handle, genuine_finish, gives_finish}
 use Rattle.wg_device.specs.Fronts.{Lock, DevicePass, setup_of, front_in, IsAct}
-use Rattle.wg_device.specs.Handles.{IsGenuine, AreGenuine, IsGenuineIn, AreGenuineIn}
+use Rattle.wg_device.specs.Handles.{IsHandleOf, IsGenuine, AreGenuine, IsGenuineIn, AreGenuineIn}
 
 -- the past of the last entry of a history that ends with a call, whose reply is the one that it has there
 record Ended (lock : Lock) (new : DevicePass) (last : Entry) : Type 0 where
@@ -78,6 +80,12 @@ finished_gives lock old new encoder recorder known reply act is =
     ap (λ (info : Info). is_some (handle_of (setup_of lock).serial info reply.answer)) is
     ∙ gives_finish (setup_of lock) (entry (number_of old) (finish_of encoder recorder) reply) end.past recorder.targets encoder (recording_of recorder) refl end.replied
 
+-- The recorder of an encoder that the device made is of the device.
+pub opens_own : (lock : Lock) (request : RequestOf HandleValue) (reply : Reply) (handle : HandleValue) (recorder : RecorderValue) → IsHandleOf lock request reply handle
+    → recorder.maker ≡ record { device = handle.reference.device; limits = (setup_of lock).limits } → IsRecorderOf (setup_of lock) recorder
+opens_own lock request reply handle recorder of made =
+    made ∙ ap (λ (device : ℕ). record { device = device; limits = (setup_of lock).limits }) (made_device (setup_of lock).serial (info_asked request) reply.answer handle of)
+
 -- What a call names is genuine.
 
 pub none_named : (setup : Setup) (front : List Entry) → AreGenuine setup front []
@@ -90,11 +98,17 @@ more_named setup front handle asked useds genuine more = All-cons (λ (used : Ha
 pub one_named : (setup : Setup) (front : List Entry) (handle : HandleValue) (asked : Wanted) → IsGenuine setup front handle → AreGenuine setup front ((handle, asked) ∷ [])
 one_named setup front handle asked genuine = more_named setup front handle asked [] genuine (none_named setup front)
 
-pub all_named : (setup : Setup) (front : List Entry) (asked : Wanted) (handles : List HandleValue) → All (λ handle. IsGenuine setup front handle) handles → AreGenuine setup front (all_wanted asked handles)
-all_named setup front asked [] all = none_named setup front
-all_named setup front asked (handle ∷ handles) all =
-    more_named setup front handle asked (all_wanted asked handles) (All-head (λ (h : HandleValue). IsGenuine setup front h) handle handles all)
-    (all_named setup front asked handles (All-tail (λ (h : HandleValue). IsGenuine setup front h) handle handles all))
+-- what is given of a list of handles, of which some may be left out
+abbrev GivenGenuine : Setup → List Entry → Option HandleValue → Type 0
+GivenGenuine setup front handle = IfSome handle (λ (h : HandleValue). IsGenuine setup front h)
+
+pub some_named : (setup : Setup) (front : List Entry) (asked : Wanted) (handles : List (Option HandleValue)) → All (λ handle. IfSome handle (λ h. IsGenuine setup front h)) handles
+    → AreGenuine setup front (some_wanted asked handles)
+some_named setup front asked [] all = none_named setup front
+some_named setup front asked (None ∷ handles) all = some_named setup front asked handles (All-tail (GivenGenuine setup front) None handles all)
+some_named setup front asked (Some handle ∷ handles) all =
+    more_named setup front handle asked (some_wanted asked handles) (All-head (GivenGenuine setup front) (Some handle) handles all)
+    (some_named setup front asked handles (All-tail (GivenGenuine setup front) (Some handle) handles all))
 
 pub maybe_named : (setup : Setup) (front : List Entry) (asked : Wanted) (handle : Option HandleValue) → IfSome handle (λ h. IsGenuine setup front h) → AreGenuine setup front (maybe_wanted asked handle)
 maybe_named setup front asked None genuine = none_named setup front
@@ -115,12 +129,12 @@ after_maybe (Ok made) setup front shared handle asked same after =
     λ genuine. after (maybe_named setup front asked shared (subst (λ (held : Option HandleValue). IfSome held (λ (h : HandleValue). IsGenuine setup front h)) (sym same) genuine))
 after_maybe (Err e) setup front shared handle asked same after = tt
 
-pub after_all : {E : Type 0} (result : Result (HandleValue × Reply) E) (setup : Setup) (front : List Entry) (held handles : List HandleValue) (asked : Wanted) → held ≡ handles
-    → IfOk result (λ t. AreGenuine setup front (all_wanted asked held) → IsGenuine setup front t.0)
-    → IfOk result (λ t. All (λ handle. IsGenuine setup front handle) handles → IsGenuine setup front t.0)
-after_all (Ok made) setup front held handles asked same after =
-    λ genuine. after (all_named setup front asked held (subst (λ (list : List HandleValue). All (λ (h : HandleValue). IsGenuine setup front h) list) (sym same) genuine))
-after_all (Err e) setup front held handles asked same after = tt
+pub after_some : {E : Type 0} (result : Result (HandleValue × Reply) E) (setup : Setup) (front : List Entry) (held handles : List (Option HandleValue)) (asked : Wanted) → held ≡ handles
+    → IfOk result (λ t. AreGenuine setup front (some_wanted asked held) → IsGenuine setup front t.0)
+    → IfOk result (λ t. All (λ handle. IfSome handle (λ h. IsGenuine setup front h)) handles → IsGenuine setup front t.0)
+after_some (Ok made) setup front held handles asked same after =
+    λ genuine. after (some_named setup front asked held (subst (λ (list : List (Option HandleValue)). All (GivenGenuine setup front) list) (sym same) genuine))
+after_some (Err e) setup front held handles asked same after = tt
 
 pub after_group : {E : Type 0} (result : Result (HandleValue × Reply) E) (setup : Setup) (front : List Entry) (shared handle : HandleValue) (asked : Wanted) (held entries : List (GroupEntryOf HandleValue)) → shared ≡ handle → held ≡ entries
     → IfOk result (λ t. AreGenuine setup front ((shared, asked) ∷ entries_named held) → IsGenuine setup front t.0)

@@ -32,7 +32,7 @@ same_end takes = by_most (nat_lt takes most_takes) refl
     by_most false e = grind (arith, nat_tests, e)
 
 pub is_as_before : (recorder : RecorderValue) → IsAsBefore recorder (restored (recording_of recorder) (taken_out recorder))
-is_as_before recorder = record { device = refl; targets = refl; encoder = refl; commands = refl; passes = refl; ended = same_end recorder.takes }
+is_as_before recorder = record { maker = refl; targets = refl; encoder = refl; commands = refl; passes = refl; ended = same_end recorder.takes }
 
 pub is_unchanged : (recorder : RecorderValue) → IsAsBefore recorder recorder
-is_unchanged recorder = record { device = refl; targets = refl; encoder = refl; commands = refl; passes = refl; ended = refl }
+is_unchanged recorder = record { maker = refl; targets = refl; encoder = refl; commands = refl; passes = refl; ended = refl }

@@ -16,10 +16,10 @@ given_back (Finish encoder recording) recorder = restored recording recorder
 given_back (FinishBundle encoder recording) recorder = restored recording recorder
 given_back _ recorder = recorder
 
--- A recorder is as it was: of the same encoder, with the same targets, commands and passes, and ended exactly where it was; it
+-- A recorder is as it was: of the same device and encoder, with the same targets, commands and passes, and ended exactly where it was; it
 -- is equal to what it was but for how often it was taken, where that is at the end of its count.
 pub record IsAsBefore (old new : RecorderValue) : Type 0 where
-  pub device : new.device ≡ old.device
+  pub maker : new.maker ≡ old.maker
   pub targets : new.targets ≡ old.targets
   pub encoder : new.encoder ≡ old.encoder
   pub commands : new.commands ≡ old.commands

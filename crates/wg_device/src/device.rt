@@ -35,8 +35,10 @@ pub type Ended = Closed<LoggedCore>;
 pub struct Device {
     lock: TurnLock<LoggedCore>,
     serial: u64,
+    limits: Limits,
     pub(crate) alloc: Global,
     ghost same: { serial ≡ (opened_with lock).setup.serial },
+    ghost limited: { limits ≡ (opened_with lock).setup.limits },
 }
 
 /// What handles will share of an object, if something is known of one.
@@ -109,10 +111,18 @@ impl Device {
             Device {
                 lock,
                 serial,
+                limits: *limits,
                 alloc,
             },
             passes,
         ))
+    }
+
+    /// The limits that it was opened with, by which its recorders judge what they are given.
+    pub fn limits(&self) -> &Limits
+        ensures { result.now ≡ (setup_of self.now.lock).limits }
+    {
+        &self.limits
     }
 
     /// Sends an event, once the pass's turn has come.

@@ -3,7 +3,8 @@ ghost use Rattle.std.specs.Prelude.{◌≡◌, All, map, option_map, option_copi
 ghost use Rattle.wg_types.specs.Bindings.{entries_named, map_entry};
 ghost use Rattle.wg_types.specs.declared.requests.RequestOf.TheVariants as request;
 ghost use Rattle.wg_calls.specs.Calls.{reference_of, opened_for, opened_with};
-ghost use Rattle.wg_device.specs.Fronts.{CanCall, HasCalled, HasNotMade, IsAct};
+ghost use Rattle.wg_calls.specs.Judged.{IsRecorderOf};
+ghost use Rattle.wg_device.specs.Fronts.{setup_of, CanCall, HasCalled, HasNotMade, IsAct};
 ghost use Rattle.wg_device.specs.Handles.{IsHandleOf, IsGenuineIn, AreGenuineIn, whole};
 
 use crate::device::{Device, DevicePass};
@@ -136,18 +137,18 @@ impl Device {
         self.make_of(rt, pass, RequestOf::CreateBindGroupLayout { entries })
     }
 
-    /// Makes a pipeline layout (WebGPU, "createPipelineLayout").
+    /// Makes a pipeline layout (WebGPU, "createPipelineLayout"). A layout that is none has no entry.
     pub fn create_pipeline_layout(
         &self,
         rt: &impl Wait,
         pass: &mut DevicePass,
-        layouts: Vec<Handle>,
+        layouts: Vec<Option<Handle>>,
     ) -> Result<(Handle, Reply), NoMemory>
         requires { CanCall self.now.lock pass.old }
         ensures called { HasCalled self.now.lock pass.old pass.new }
-        ensures done { IfOk result (λ t. IsAct self.now.lock pass.old pass.new (Event.CreatePipelineLayout (map reference_of layouts.items)) t.1) }
+        ensures done { IfOk result (λ t. IsAct self.now.lock pass.old pass.new (Event.CreatePipelineLayout (map (option_map reference_of) layouts.items)) t.1) }
         ensures handle { IfOk result (λ t. IsHandleOf self.now.lock (request.CreatePipelineLayout layouts.items) t.1 t.0) }
-        ensures genuine { IfOk result (λ t. All (λ layout. IsGenuineIn self.now.lock pass.new layout) layouts.items
+        ensures genuine { IfOk result (λ t. All (λ layout. IfSome layout (λ given. IsGenuineIn self.now.lock pass.new given)) layouts.items
             → IsGenuineIn self.now.lock pass.new t.0) }
         ensures refused { IfErr result (λ _. HasNotMade self.now.lock pass.old pass.new) }
     {
@@ -268,8 +269,9 @@ impl Device {
         self.make_of(rt, pass, RequestOf::CreateQuerySet { info })
     }
 
-    /// Makes an encoder (WebGPU, "createCommandEncoder"), with a recorder that is open for it.
-    #[tactic(auto, using(crate::proofs::Calling::none_named))]
+    /// Makes an encoder (WebGPU, "createCommandEncoder"), with a recorder that is open for it and judges by the
+    /// limits of the device.
+    #[tactic(auto, using(crate::proofs::Calling::none_named, crate::proofs::Calling::opens_own))]
     pub fn create_encoder(
         &self,
         rt: &impl Wait,
@@ -279,18 +281,19 @@ impl Device {
         ensures called { HasCalled self.now.lock pass.old pass.new }
         ensures done { IfOk result (λ t. IsAct self.now.lock pass.old pass.new Event.CreateEncoder t.2) }
         ensures handle { IfOk result (λ t. IsHandleOf self.now.lock request.CreateEncoder t.2 t.1) }
-        ensures recorder { IfOk result (λ t. t.0 ≡ opened_for t.1.reference) }
+        ensures recorder { IfOk result (λ t. t.0 ≡ opened_for (setup_of self.now.lock).limits t.1.reference) }
+        ensures own { IfOk result (λ t. IsRecorderOf (setup_of self.now.lock) t.0) }
         ensures genuine { IfOk result (λ t. IsGenuineIn self.now.lock pass.new t.1) }
         ensures refused { IfErr result (λ _. HasNotMade self.now.lock pass.old pass.new) }
     {
         let (handle, reply) = self.make_of(rt, pass, RequestOf::CreateEncoder)?;
-        let recorder = recorder_for(self.alloc, handle.reference());
+        let recorder = recorder_for(self.alloc, handle.reference(), self.limits());
         Ok((recorder, handle, reply))
     }
 
     /// Makes a bundle encoder that draws to these targets (WebGPU, "createRenderBundleEncoder"), with a recorder
-    /// that is open for it. `finish` ends it, and makes the bundle.
-    #[tactic(auto, using(crate::proofs::Calling::none_named))]
+    /// that is open for it and judges by the limits of the device. `finish` ends it, and makes the bundle.
+    #[tactic(auto, using(crate::proofs::Calling::none_named, crate::proofs::Calling::opens_own))]
     pub fn create_bundle_encoder(
         &self,
         rt: &impl Wait,
@@ -301,14 +304,15 @@ impl Device {
         ensures called { HasCalled self.now.lock pass.old pass.new }
         ensures done { IfOk result (λ t. IsAct self.now.lock pass.old pass.new (Event.CreateBundleEncoder targets) t.2) }
         ensures handle { IfOk result (λ t. IsHandleOf self.now.lock (request.CreateBundleEncoder targets) t.2 t.1) }
-        ensures recorder { IfOk result (λ t. t.0 ≡ opened_with targets t.1.reference) }
+        ensures recorder { IfOk result (λ t. t.0 ≡ opened_with (setup_of self.now.lock).limits targets t.1.reference) }
+        ensures own { IfOk result (λ t. IsRecorderOf (setup_of self.now.lock) t.0) }
         ensures genuine { IfOk result (λ t. IsGenuineIn self.now.lock pass.new t.1) }
         ensures refused { IfErr result (λ _. HasNotMade self.now.lock pass.old pass.new) }
     {
         let targets = Shared::new(self.alloc, targets)?;
         let kept = targets.share()?;
         let (handle, reply) = self.make_of(rt, pass, RequestOf::CreateBundleEncoder { targets })?;
-        let recorder = bundle_recorder_for(self.alloc, handle.reference(), kept);
+        let recorder = bundle_recorder_for(self.alloc, handle.reference(), kept, self.limits());
         Ok((recorder, handle, reply))
     }
 }

@@ -154,7 +154,7 @@ fn of_pipelines<R: Wait>(
     ensures { IsPassOf device.now.lock pass.new × (calls_of pass.new ≤ calls_of pass.old + 7) }
 {
     let group = of_group(rt, alloc, device, pass)?;
-    let layouts = vec![in alloc; group].ok()?;
+    let layouts = vec![in alloc; Some(group)].ok()?;
     let layout = made(device.create_pipeline_layout(rt, pass, layouts), 5)?;
     let compute = device.create_compute_pipeline(rt, pass, Some(&layout), Vec::new(alloc));
     let compute = made(compute, 6)?;

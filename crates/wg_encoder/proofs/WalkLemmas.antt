@@ -14,6 +14,7 @@ use Rattle.wg_types.specs.declared.commands.On.TheVariants.{Encoder, Pass}
 use Rattle.wg_types.specs.declared.commands.CommandOf.TheVariants.{BeginComputePass, BeginRenderPass}
 use Rattle.wg_model.proofs.Walks.{ended_new, open_number_below}
 use Rattle.wg_types.specs.Commands.{is_begin, is_end}
+use Rattle.wg_types.specs.declared.limits.Maker.{Maker}
 use Rattle.wg_model.specs.Rules.{first_unmet}
 use Rattle.wg_model.specs.Commands.{command_rules}
 use Rattle.wg_model.specs.Settings.{depth_after}
@@ -46,8 +47,8 @@ at_push marks c n d len each new lt = elim (cases_lt n c) [
 ]
 
 -- a command on a pass that is not open
-pub walk_dead : (device : ℕ) (kept : Kept) (pass : ℕ) (command : Command) (walk : Walk) → IsWalkOf device kept walk → is_open (open_pass kept) pass ≡ false → IsWalkOf device ((Pass pass, command) ∷ kept) walk
-walk_dead device kept pass command walk m h = record {
+pub walk_dead : (maker : Maker) (kept : Kept) (pass : ℕ) (command : Command) (walk : Walk) → IsWalkOf maker kept walk → is_open (open_pass kept) pass ≡ false → IsWalkOf maker ((Pass pass, command) ∷ kept) walk
+walk_dead maker kept pass command walk m h = record {
   count = m.count;
   ended_is = λ n lt. m.ended_is n lt ∙ rw h refl;
   verdict_is = m.verdict_is ∙ rw h (sym (or_none _));
@@ -65,18 +66,18 @@ none_is None h = refl
 none_is (Some q) h = absurd (cc)
 
 -- a dead pass: one that is begun on a locked encoder
-dead_begun : (device : ℕ) (kept : Kept) (opened : PassSoFar) (command : Command) (walk : Walk) → IsWalkOf device kept walk → open_pass kept ≡ Some opened → is_begin command ≡ true → IsWalkOf device ((Encoder, command) ∷ kept) (record walk { verdict = option_or walk.verdict (Some NO_PASS_IS_OPEN); ended = walk.ended ++ false ∷ [] })
-dead_begun device kept opened command walk m e b = record {
+dead_begun : (maker : Maker) (kept : Kept) (opened : PassSoFar) (command : Command) (walk : Walk) → IsWalkOf maker kept walk → open_pass kept ≡ Some opened → is_begin command ≡ true → IsWalkOf maker ((Encoder, command) ∷ kept) (record walk { verdict = option_or walk.verdict (Some NO_PASS_IS_OPEN); ended = walk.ended ++ false ∷ [] })
+dead_begun maker kept opened command walk m e b = record {
   count = rw b (length-append walk.ended (false ∷ []) ∙ omega (arith, m.count));
   ended_is = λ n lt. at_push walk.ended (begins kept) n (has_ended kept) m.count m.ended_is (ended_new kept) (rw b at lt);
   verdict_is = rw e (ap (λ v. option_or v (Some NO_PASS_IS_OPEN)) m.verdict_is);
   depth_is = rw e m.depth_is;
   open_is = let o = m.open_is in rw e (rw e at o);
-  done_is = λ v r. let w = or_second (verdict device kept) _ v in absurd (let x = rw e at w in cc);
+  done_is = λ v r. let w = or_second (verdict maker kept) _ v in absurd (let x = rw e at w in cc);
 }
 
-pub walk_dead_begun : (device : ℕ) (kept : Kept) (command : Command) (walk : Walk) → IsWalkOf device kept walk → is_some (open_pass kept) ≡ true → is_begin command ≡ true → IsWalkOf device ((Encoder, command) ∷ kept) (record walk { verdict = option_or walk.verdict (Some NO_PASS_IS_OPEN); ended = walk.ended ++ false ∷ [] })
-walk_dead_begun device kept command walk m l b = let q = some_is (open_pass kept) l in dead_begun device kept q.0 command walk m q.1 b
+pub walk_dead_begun : (maker : Maker) (kept : Kept) (command : Command) (walk : Walk) → IsWalkOf maker kept walk → is_some (open_pass kept) ≡ true → is_begin command ≡ true → IsWalkOf maker ((Encoder, command) ∷ kept) (record walk { verdict = option_or walk.verdict (Some NO_PASS_IS_OPEN); ended = walk.ended ++ false ∷ [] })
+walk_dead_begun maker kept command walk m l b = let q = some_is (open_pass kept) l in dead_begun maker kept q.0 command walk m q.1 b
 
 -- a begin has no rule of the encoder, and leaves its debug groups
 begin_depth : (depth : ℕ) (command : Command) → is_begin command ≡ true → depth_after depth command ≡ depth
@@ -91,8 +92,8 @@ begin_does (BeginRenderPass begin) b = refl
 begin_does _ b = absurd (cc)
 
 -- a pass that is begun on an unlocked encoder
-begun : (device : ℕ) (kept : Kept) (command : Command) (walk : Walk) (opened : Box Opened Global) → IsWalkOf device kept walk → open_pass kept ≡ None → is_begin command ≡ true → opened.value.number ≡ begins kept → IsStateOf device command [] opened.value.state → IsWalkOf device ((Encoder, command) ∷ kept) (record walk { ended = walk.ended ++ false ∷ []; opened = Some opened })
-begun device kept command walk opened m e b n s = record {
+begun : (maker : Maker) (kept : Kept) (command : Command) (walk : Walk) (opened : Box Opened Global) → IsWalkOf maker kept walk → open_pass kept ≡ None → is_begin command ≡ true → opened.value.number ≡ begins kept → IsStateOf maker command [] opened.value.state → IsWalkOf maker ((Encoder, command) ∷ kept) (record walk { ended = walk.ended ++ false ∷ []; opened = Some opened })
+begun maker kept command walk opened m e b n s = record {
   count = rw b (length-append walk.ended (false ∷ []) ∙ omega (arith, m.count));
   ended_is = λ k lt. at_push walk.ended (begins kept) k (has_ended kept) m.count m.ended_is (ended_new kept) (rw b at lt);
   verdict_is = rw e (rw b (m.verdict_is ∙ sym (or_none _)));
@@ -102,11 +103,11 @@ begun device kept command walk opened m e b n s = record {
 }
 
 -- a command on an unlocked encoder that begins no pass
-abbrev NextVerdict : ℕ → Walk → Command → Option ℕ
-NextVerdict device walk command = option_or walk.verdict (first_unmet (command_rules device walk.depth command))
+abbrev NextVerdict : Maker → Walk → Command → Option ℕ
+NextVerdict maker walk command = option_or walk.verdict (first_unmet (command_rules maker.device walk.depth command))
 
-command_free : (device : ℕ) (kept : Kept) (command : Command) (walk : Walk) (done : Done) → IsWalkOf device kept walk → open_pass kept ≡ None → is_begin command ≡ false → (NextVerdict device walk command ≡ None → done ≡ done_by_encoder walk.done (encoder_does command)) → IsWalkOf device ((Encoder, command) ∷ kept) (record walk { done = done; verdict = NextVerdict device walk command; depth = depth_after walk.depth command })
-command_free device kept command walk done m e b d = record {
+command_free : (maker : Maker) (kept : Kept) (command : Command) (walk : Walk) (done : Done) → IsWalkOf maker kept walk → open_pass kept ≡ None → is_begin command ≡ false → (NextVerdict maker walk command ≡ None → done ≡ done_by_encoder walk.done (encoder_does command)) → IsWalkOf maker ((Encoder, command) ∷ kept) (record walk { done = done; verdict = NextVerdict maker walk command; depth = depth_after walk.depth command })
+command_free maker kept command walk done m e b d = record {
   count = rw b m.count;
   ended_is = λ n lt. m.ended_is n (rw b at lt);
   verdict_is = next;
@@ -115,33 +116,33 @@ command_free device kept command walk done m e b d = record {
   done_is = λ v r. d (next ∙ v) ∙ (ap (λ done. done_by_encoder done (encoder_does command)) (m.done_is (or_first _ _ v) (rw e refl)) ∙ sym (after_encoder (usage_scopes kept) (doings kept) (encoder_does command)));
 }
   where
-    next : NextVerdict device walk command ≡ verdict device ((Encoder, command) ∷ kept)
+    next : NextVerdict maker walk command ≡ verdict maker ((Encoder, command) ∷ kept)
     next = rw e (rw b (rw m.verdict_is (rw m.depth_is refl)))
 
-pub walk_begun : (device : ℕ) (kept : Kept) (command : Command) (walk : Walk) (opened : Box Opened Global) → IsWalkOf device kept walk → is_some (open_pass kept) ≡ false → is_begin command ≡ true → opened.value.number ≡ begins kept → IsStateOf device command [] opened.value.state → IsWalkOf device ((Encoder, command) ∷ kept) (record walk { ended = walk.ended ++ false ∷ []; opened = Some opened })
-walk_begun device kept command walk opened m f b n s = begun device kept command walk opened m (none_is (open_pass kept) f) b n s
+pub walk_begun : (maker : Maker) (kept : Kept) (command : Command) (walk : Walk) (opened : Box Opened Global) → IsWalkOf maker kept walk → is_some (open_pass kept) ≡ false → is_begin command ≡ true → opened.value.number ≡ begins kept → IsStateOf maker command [] opened.value.state → IsWalkOf maker ((Encoder, command) ∷ kept) (record walk { ended = walk.ended ++ false ∷ []; opened = Some opened })
+walk_begun maker kept command walk opened m f b n s = begun maker kept command walk opened m (none_is (open_pass kept) f) b n s
 
-pub walk_command : (device : ℕ) (kept : Kept) (command : Command) (walk : Walk) (done : Done) → IsWalkOf device kept walk → is_some (open_pass kept) ≡ false → is_begin command ≡ false → (option_or walk.verdict (first_unmet (command_rules device walk.depth command)) ≡ None → done ≡ done_by_encoder walk.done (encoder_does command)) → IsWalkOf device ((Encoder, command) ∷ kept) (record walk { done = done; verdict = option_or walk.verdict (first_unmet (command_rules device walk.depth command)); depth = depth_after walk.depth command })
-walk_command device kept command walk done m f b d = command_free device kept command walk done m (none_is (open_pass kept) f) b d
+pub walk_command : (maker : Maker) (kept : Kept) (command : Command) (walk : Walk) (done : Done) → IsWalkOf maker kept walk → is_some (open_pass kept) ≡ false → is_begin command ≡ false → (option_or walk.verdict (first_unmet (command_rules maker.device walk.depth command)) ≡ None → done ≡ done_by_encoder walk.done (encoder_does command)) → IsWalkOf maker ((Encoder, command) ∷ kept) (record walk { done = done; verdict = option_or walk.verdict (first_unmet (command_rules maker.device walk.depth command)); depth = depth_after walk.depth command })
+walk_command maker kept command walk done m f b d = command_free maker kept command walk done m (none_is (open_pass kept) f) b d
 
 open_some : (opened : Option PassSoFar) (pass : ℕ) → is_open opened pass ≡ true → (q : PassSoFar) × (opened ≡ Some q)
 open_some None pass h = absurd (cc)
 open_some (Some q) pass h = (q, refl)
 
-done_after : (device : ℕ) (kept : Kept) (q : PassSoFar) (command : Command) (walk : Walk) (old new : Box Opened Global) (after : Done) (rule : Option ℕ) → IsWalkOf device kept walk → open_pass kept ≡ Some q → IsOpenOf device (Some q) (Some old) → IsNext device command old.value new.value walk.done after rule → verdict device kept ≡ None → pass_rule device q.begin (command ∷ q.earlier) ≡ None → after ≡ record { clash = first_clash (usage_scopes kept ++ map scope_in (option_to_list (pass_does q.begin q.earlier command))); deeds = map deed_of (doings kept ++ option_to_list (pass_does q.begin q.earlier command)) }
-done_after device kept q command walk old new after rule m e o next v r =
+done_after : (maker : Maker) (kept : Kept) (q : PassSoFar) (command : Command) (walk : Walk) (old new : Box Opened Global) (after : Done) (rule : Option ℕ) → IsWalkOf maker kept walk → open_pass kept ≡ Some q → IsOpenOf maker (Some q) (Some old) → IsNext maker command old.value new.value walk.done after rule → verdict maker kept ≡ None → pass_rule maker q.begin (command ∷ q.earlier) ≡ None → after ≡ record { clash = first_clash (usage_scopes kept ++ map scope_in (option_to_list (pass_does q.begin q.earlier command))); deeds = map deed_of (doings kept ++ option_to_list (pass_does q.begin q.earlier command)) }
+done_after maker kept q command walk old new after rule m e o next v r =
     (next.taken q.begin q.earlier o.1).done_is r
     ∙ (ap (λ done. done_by_pass done (pass_does q.begin q.earlier command)) (m.done_is v (rw e (or_first _ _ r)))
     ∙ sym (after_pass (usage_scopes kept) (doings kept) (pass_does q.begin q.earlier command)))
 
-inside : (device : ℕ) (kept : Kept) (pass : ℕ) (q : PassSoFar) (command : Command) (walk : Walk) (old new : Box Opened Global) (after : Done) (rule : Option ℕ) → IsWalkOf device kept walk → open_pass kept ≡ Some q → pass == q.number ≡ true → is_end command ≡ false → IsOpenOf device (Some q) (Some old) → IsNext device command old.value new.value walk.done after rule → IsWalkOf device ((Pass pass, command) ∷ kept) (record walk { opened = Some new; done = after })
-inside device kept pass q command walk old new after rule m e h b o next = record {
+inside : (maker : Maker) (kept : Kept) (pass : ℕ) (q : PassSoFar) (command : Command) (walk : Walk) (old new : Box Opened Global) (after : Done) (rule : Option ℕ) → IsWalkOf maker kept walk → open_pass kept ≡ Some q → pass == q.number ≡ true → is_end command ≡ false → IsOpenOf maker (Some q) (Some old) → IsNext maker command old.value new.value walk.done after rule → IsWalkOf maker ((Pass pass, command) ∷ kept) (record walk { opened = Some new; done = after })
+inside maker kept pass q command walk old new after rule m e h b o next = record {
   count = m.count;
   ended_is = λ n lt. m.ended_is n lt ∙ rw e (rw h (rw b refl));
   verdict_is = m.verdict_is ∙ rw e (rw h (rw b (sym (or_none _))));
   depth_is = m.depth_is;
   open_is = rw e (rw h (rw b (next.number ∙ o.0, (next.taken q.begin q.earlier o.1).state_is)));
-  done_is = λ v r. rw e (rw h (done_after device kept q command walk old new after rule m e o next (or_first _ _ v) (let x = rw e at r in let y = rw h at x in rw b at y)));
+  done_is = λ v r. rw e (rw h (done_after maker kept q command walk old new after rule m e o next (or_first _ _ v) (let x = rw e at r in let y = rw h at x in rw b at y)));
 }
 
 at_set_by : (b : Bool) (marks : List Bool) (p n : ℕ) (d : Bool) → (p == n) ≡ b → p < length marks → slice_index_or marks n false ≡ d → slice_index_or (slice_set marks p true) n false ≡ b || d
@@ -151,31 +152,31 @@ at_set_by false marks p n d e lt each = let other : n ≢ p = grind (arith, nat_
 at_set : (marks : List Bool) (p n c : ℕ) (d : ℕ → Bool) → length marks ≡ c → p < c → ((k : ℕ) → k < c → slice_index_or marks k false ≡ d k) → n < c → slice_index_or (slice_set marks p true) n false ≡ (p == n) || d n
 at_set marks p n c d len lt each below = at_set_by (p == n) marks p n (d n) refl (omega (arith, len, lt)) (each n below)
 
-ended : (device : ℕ) (kept : Kept) (pass : ℕ) (q : PassSoFar) (command : Command) (walk : Walk) (old new : Box Opened Global) (after : Done) (rule : Option ℕ) → IsWalkOf device kept walk → open_pass kept ≡ Some q → pass == q.number ≡ true → is_end command ≡ true → IsOpenOf device (Some q) (Some old) → IsNext device command old.value new.value walk.done after rule → pass < begins kept → IsWalkOf device ((Pass pass, command) ∷ kept) (record walk { opened = None; done = after; verdict = option_or walk.verdict rule; ended = slice_set walk.ended pass true })
-ended device kept pass q command walk old new after rule m e h b o next lt = record {
+ended : (maker : Maker) (kept : Kept) (pass : ℕ) (q : PassSoFar) (command : Command) (walk : Walk) (old new : Box Opened Global) (after : Done) (rule : Option ℕ) → IsWalkOf maker kept walk → open_pass kept ≡ Some q → pass == q.number ≡ true → is_end command ≡ true → IsOpenOf maker (Some q) (Some old) → IsNext maker command old.value new.value walk.done after rule → pass < begins kept → IsWalkOf maker ((Pass pass, command) ∷ kept) (record walk { opened = None; done = after; verdict = option_or walk.verdict rule; ended = slice_set walk.ended pass true })
+ended maker kept pass q command walk old new after rule m e h b o next lt = record {
   count = length-set walk.ended pass true ∙ m.count;
   ended_is = λ n below. at_set walk.ended pass n (begins kept) (has_ended kept) m.count lt m.ended_is below ∙ rw e (rw h (rw b refl));
   verdict_is = rw m.verdict_is (rw e (rw h (rw b (rw ((next.taken q.begin q.earlier o.1).rule_is) refl))));
   depth_is = m.depth_is;
   open_is = rw e (rw h (rw b tt));
-  done_is = λ v r. rw e (rw h (done_after device kept q command walk old new after rule m e o next (or_first _ _ v) (let x = or_second (verdict device kept) _ v in let y = rw e at x in let z = rw h at y in rw b at z)));
+  done_is = λ v r. rw e (rw h (done_after maker kept q command walk old new after rule m e o next (or_first _ _ v) (let x = or_second (verdict maker kept) _ v in let y = rw e at x in let z = rw h at y in rw b at z)));
 }
 
-opened_is : (device : ℕ) (opened : Option PassSoFar) (q : PassSoFar) (held : Option (Box Opened Global)) (old : Box Opened Global) → IsOpenOf device opened held → opened ≡ Some q → held ≡ Some old → IsOpenOf device (Some q) (Some old)
-opened_is device opened q held old o e h = let x = rw e at o in rw h at x
+opened_is : (maker : Maker) (opened : Option PassSoFar) (q : PassSoFar) (held : Option (Box Opened Global)) (old : Box Opened Global) → IsOpenOf maker opened held → opened ≡ Some q → held ≡ Some old → IsOpenOf maker (Some q) (Some old)
+opened_is maker opened q held old o e h = let x = rw e at o in rw h at x
 
 -- a command of the open pass that is no end
-pub walk_inside : (device : ℕ) (kept : Kept) (pass : ℕ) (command : Command) (walk : Walk) (old new : Box Opened Global) (after : Done) (rule : Option ℕ) → IsWalkOf device kept walk → walk.opened ≡ Some old → is_open (open_pass kept) pass ≡ true → is_end command ≡ false → IsNext device command old.value new.value walk.done after rule → IsWalkOf device ((Pass pass, command) ∷ kept) (record walk { opened = Some new; done = after })
-walk_inside device kept pass command walk old new after rule m h i b next =
+pub walk_inside : (maker : Maker) (kept : Kept) (pass : ℕ) (command : Command) (walk : Walk) (old new : Box Opened Global) (after : Done) (rule : Option ℕ) → IsWalkOf maker kept walk → walk.opened ≡ Some old → is_open (open_pass kept) pass ≡ true → is_end command ≡ false → IsNext maker command old.value new.value walk.done after rule → IsWalkOf maker ((Pass pass, command) ∷ kept) (record walk { opened = Some new; done = after })
+walk_inside maker kept pass command walk old new after rule m h i b next =
     let q = open_some (open_pass kept) pass i in
-    inside device kept pass q.0 command walk old new after rule m q.1 (rw q.1 at i) b (opened_is device (open_pass kept) q.0 walk.opened old m.open_is q.1 h) next
+    inside maker kept pass q.0 command walk old new after rule m q.1 (rw q.1 at i) b (opened_is maker (open_pass kept) q.0 walk.opened old m.open_is q.1 h) next
 
 -- the end of the open pass
-pub walk_ended : (device : ℕ) (kept : Kept) (pass : ℕ) (command : Command) (walk : Walk) (old new : Box Opened Global) (after : Done) (rule : Option ℕ) → IsWalkOf device kept walk → walk.opened ≡ Some old → is_open (open_pass kept) pass ≡ true → is_end command ≡ true → IsNext device command old.value new.value walk.done after rule → IsWalkOf device ((Pass pass, command) ∷ kept) (record walk { opened = None; done = after; verdict = option_or walk.verdict rule; ended = slice_set walk.ended pass true })
-walk_ended device kept pass command walk old new after rule m h i b next =
+pub walk_ended : (maker : Maker) (kept : Kept) (pass : ℕ) (command : Command) (walk : Walk) (old new : Box Opened Global) (after : Done) (rule : Option ℕ) → IsWalkOf maker kept walk → walk.opened ≡ Some old → is_open (open_pass kept) pass ≡ true → is_end command ≡ true → IsNext maker command old.value new.value walk.done after rule → IsWalkOf maker ((Pass pass, command) ∷ kept) (record walk { opened = None; done = after; verdict = option_or walk.verdict rule; ended = slice_set walk.ended pass true })
+walk_ended maker kept pass command walk old new after rule m h i b next =
     let q = open_some (open_pass kept) pass i in
-    ended device kept pass q.0 command walk old new after rule m q.1 (rw q.1 at i) b (opened_is device (open_pass kept) q.0 walk.opened old m.open_is q.1 h) next (open_number_below kept pass i)
+    ended maker kept pass q.0 command walk old new after rule m q.1 (rw q.1 at i) b (opened_is maker (open_pass kept) q.0 walk.opened old m.open_is q.1 h) next (open_number_below kept pass i)
 
 -- what is done by a recording that has no verdict and no open pass
-pub deeds_are : (device : ℕ) (kept : Kept) (walk : Walk) → IsWalkOf device kept walk → verdict device kept ≡ None → is_some (open_pass kept) ≡ false → walk.done.deeds ≡ deeds kept
-deeds_are device kept walk m v o = ap (λ done. done.deeds) (m.done_is v (rw (none_is (open_pass kept) o) refl))
+pub deeds_are : (maker : Maker) (kept : Kept) (walk : Walk) → IsWalkOf maker kept walk → verdict maker kept ≡ None → is_some (open_pass kept) ≡ false → walk.done.deeds ≡ deeds kept
+deeds_are maker kept walk m v o = ap (λ done. done.deeds) (m.done_is v (rw (none_is (open_pass kept) o) refl))

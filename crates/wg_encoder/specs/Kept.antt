@@ -5,6 +5,7 @@ use Rattle.std.specs.declared.boxed.Box.{Box}
 use Rattle.wg_types.specs.declared.commands.On.{On}
 use Rattle.wg_types.specs.Commands.{Command}
 use Rattle.wg_types.specs.declared.render.TargetInfo.{TargetInfo}
+use Rattle.wg_types.specs.declared.limits.Maker.{Maker}
 use Rattle.wg_model.specs.Walk.{begins}
 use Rattle.wg_encoder.specs.Recorders.{targets_left}
 use Rattle.wg_encoder.specs.Walked.{IsKnownOf}
@@ -17,9 +18,9 @@ commands_of None = []
 commands_of (Some kept) = kept.value.commands.items
 
 -- What is known of the kept commands is what the walk over them finds.
-abbrev pub IsKeptOf : ℕ → Option TargetInfo → Option (Box KeptCommands Global) → Type 0
-IsKeptOf device targets None = Unit {0}
-IsKeptOf device targets (Some kept) = IsKnownOf device targets (reverse kept.value.commands.items) kept.value.known
+abbrev pub IsKeptOf : Maker → Option TargetInfo → Option (Box KeptCommands Global) → Type 0
+IsKeptOf maker targets None = Unit {0}
+IsKeptOf maker targets (Some kept) = IsKnownOf maker targets (reverse kept.value.commands.items) kept.value.known
 
 -- What is kept of what these name is each of it once.
 abbrev pub IsNaming : Option (Box KeptCommands Global) → Type 0

@@ -5,21 +5,22 @@ use Rattle.wg_types.specs.declared.commands.On.{On}
 use Rattle.wg_types.specs.declared.commands.On.TheVariants.{Encoder, Pass}
 use Rattle.wg_types.specs.Commands.{Command}
 use Rattle.wg_types.specs.declared.render.TargetInfo.{TargetInfo}
+use Rattle.wg_types.specs.declared.limits.Maker.{Maker}
 use Rattle.wg_model.specs.Walk.{begins, begins_pass, has_ended, open_pass, no_targets}
 use Rattle.wg_encoder.specs.declared.recorder.Noted.{Noted}
 use Rattle.wg_encoder.specs.declared.recorder.Noted.TheVariants.{Kept, Late}
 
--- A recording: the number of its recorder's device, to what it draws, if it is that of a bundle encoder, and the commands in
+-- A recording: the device of its recorder, by number and limits, to what it draws, if it is that of a bundle encoder, and the commands in
 -- order, each with what it stands on.
 pub record RecordingValue : Type 0 where
-  pub device : ℕ
+  pub maker : Maker
   pub targets : Option TargetInfo
   pub commands : List (On × Command)
 
--- A recorder: the number of its device, to what it draws, if it is that of a bundle encoder, the encoder that it was opened
+-- A recorder: its device, by number and limits, to what it draws, if it is that of a bundle encoder, the encoder that it was opened
 -- with, the kept commands in order, how often it was taken, and how many passes were begun on it, late ones too.
 pub record RecorderValue : Type 0 where
-  pub device : ℕ
+  pub maker : Maker
   pub targets : Option TargetInfo
   pub encoder : Option ObjRef
   pub commands : List (On × Command)
@@ -93,7 +94,7 @@ pub record IsTakenAt (takes passes : ℕ) (targets : Option TargetInfo) (command
 -- commands, which begin as many passes as the recorder has, of a later one none, and the targets that are left.
 abbrev pub IsTakenFrom : RecordingValue → RecorderValue → Type 0
 IsTakenFrom recording recorder =
-    (recording.device ≡ recorder.device) × IsTakenAt recorder.takes recorder.passes recording.targets recording.commands
+    (recording.maker ≡ recorder.maker) × IsTakenAt recorder.takes recorder.passes recording.targets recording.commands
 
 -- a recorder before the take that gave this
 abbrev pub restored : RecordingValue → RecorderValue → RecorderValue

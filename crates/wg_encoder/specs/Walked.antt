@@ -9,6 +9,7 @@ use Rattle.wg_types.specs.declared.render.TargetInfo.{TargetInfo}
 use Rattle.wg_types.specs.declared.wanted.Kind.TheVariants as kind
 use Rattle.wg_types.specs.declared.commands.Bracket.{Bracket}
 use Rattle.wg_types.specs.declared.commands.Bracket.TheVariants as brackets
+use Rattle.wg_types.specs.declared.limits.Maker.{Maker}
 use Rattle.wg_model.specs.Rules.{first_unmet}
 use Rattle.wg_model.specs.Commands.{common_rules}
 use Rattle.wg_model.specs.Settings.{Settings, settings, debug_depth}
@@ -53,61 +54,61 @@ abbrev pub IsRenderOf : Command → List Command → RenderSet → Type 0
 IsRenderOf begin earlier set = IsRenderBy (begin_of begin) (bracket begin) earlier set
 
 -- The state of a pass is what its commands give.
-abbrev pub IsStateOf : ℕ → Command → List Command → PassState → Type 0
-IsStateOf device begin earlier (Refused rule) = pass_rule device begin earlier ≡ Some rule
-IsStateOf device begin earlier (Compute set) = (pass_rule device begin earlier ≡ None) × IsComputeOf begin earlier set
-IsStateOf device begin earlier (Render set) = (pass_rule device begin earlier ≡ None) × IsRenderOf begin earlier set
+abbrev pub IsStateOf : Maker → Command → List Command → PassState → Type 0
+IsStateOf maker begin earlier (Refused rule) = pass_rule maker begin earlier ≡ Some rule
+IsStateOf maker begin earlier (Compute set) = (pass_rule maker begin earlier ≡ None) × IsComputeOf begin earlier set
+IsStateOf maker begin earlier (Render set) = (pass_rule maker begin earlier ≡ None) × IsRenderOf begin earlier set
 
 -- The pass that is kept as open is the one that is, with its state, or none is.
-abbrev pub IsOpenOf : ℕ → Option PassSoFar → Option (Box Opened Global) → Type 0
-IsOpenOf device None None = Unit {0}
-IsOpenOf device (Some pass) (Some opened) = (opened.value.number ≡ pass.number) × IsStateOf device pass.begin pass.earlier opened.value.state
-IsOpenOf device None (Some opened) = ⊥
-IsOpenOf device (Some pass) None = ⊥
+abbrev pub IsOpenOf : Maker → Option PassSoFar → Option (Box Opened Global) → Type 0
+IsOpenOf maker None None = Unit {0}
+IsOpenOf maker (Some pass) (Some opened) = (opened.value.number ≡ pass.number) × IsStateOf maker pass.begin pass.earlier opened.value.state
+IsOpenOf maker None (Some opened) = ⊥
+IsOpenOf maker (Some pass) None = ⊥
 
 -- the open pass's own rule
-abbrev pub open_rule : ℕ → Option PassSoFar → Option ℕ
-open_rule device None = None
-open_rule device (Some pass) = pass_rule device pass.begin pass.earlier
+abbrev pub open_rule : Maker → Option PassSoFar → Option ℕ
+open_rule maker None = None
+open_rule maker (Some pass) = pass_rule maker pass.begin pass.earlier
 
 -- What a recorder keeps in place of a walk (which passes have ended, the verdict, the open groups, the open pass with its
 -- state, and what is done as long as no rule was unmet) is what the walk over its commands finds.
-pub record IsWalkOf (device : ℕ) (kept : Kept) (walk : Walk) : Type 0 where
+pub record IsWalkOf (maker : Maker) (kept : Kept) (walk : Walk) : Type 0 where
   pub count : length walk.ended ≡ begins kept
   pub ended_is : (number : ℕ) → number < begins kept → slice_index_or walk.ended number false ≡ has_ended kept number
-  pub verdict_is : walk.verdict ≡ verdict device kept
+  pub verdict_is : walk.verdict ≡ verdict maker kept
   pub depth_is : walk.depth ≡ encoder_depth kept
-  pub open_is : IsOpenOf device (open_pass kept) walk.opened
+  pub open_is : IsOpenOf maker (open_pass kept) walk.opened
   -- as long as no rule was unmet, also in the open pass
-  pub done_is : verdict device kept ≡ None → open_rule device (open_pass kept) ≡ None → walk.done ≡ done_of kept
+  pub done_is : verdict maker kept ≡ None → open_rule maker (open_pass kept) ≡ None → walk.done ≡ done_of kept
 
 -- A pass took a command: its state, its rule, and what is done are after it what its commands give.
-pub record IsTaken (device : ℕ) (begin : Command) (earlier : List Command) (command : Command) (state : PassState) (old new : Done) (rule : Option ℕ) : Type 0 where
-  pub state_is : IsStateOf device begin (command ∷ earlier) state
-  pub rule_is : rule ≡ pass_rule device begin (command ∷ earlier)
-  pub done_is : pass_rule device begin (command ∷ earlier) ≡ None → new ≡ done_by_pass old (pass_does begin earlier command)
+pub record IsTaken (maker : Maker) (begin : Command) (earlier : List Command) (command : Command) (state : PassState) (old new : Done) (rule : Option ℕ) : Type 0 where
+  pub state_is : IsStateOf maker begin (command ∷ earlier) state
+  pub rule_is : rule ≡ pass_rule maker begin (command ∷ earlier)
+  pub done_is : pass_rule maker begin (command ∷ earlier) ≡ None → new ≡ done_by_pass old (pass_does begin earlier command)
 
 -- The open pass took a command.
-pub record IsNext (device : ℕ) (command : Command) (before after : Opened) (old new : Done) (rule : Option ℕ) : Type 0 where
+pub record IsNext (maker : Maker) (command : Command) (before after : Opened) (old new : Done) (rule : Option ℕ) : Type 0 where
   pub number : after.number ≡ before.number
-  pub taken : (begin : Command) (earlier : List Command) → IsStateOf device begin earlier before.state → IsTaken device begin earlier command after.state old new rule
+  pub taken : (begin : Command) (earlier : List Command) → IsStateOf maker begin earlier before.state → IsTaken maker begin earlier command after.state old new rule
 
 -- the first unmet rule of a command of a bundle encoder, over what is set
-abbrev pub drawn_rule : ℕ → RenderSet → Command → Option ℕ
-drawn_rule device set command =
-    option_or (first_unmet (common_rules device (named_on kind.BundleEncoder command))) (first_unmet (render_rules set command))
+abbrev pub drawn_rule : Maker → RenderSet → Command → Option ℕ
+drawn_rule maker set command =
+    option_or (first_unmet (common_rules maker.device (named_on kind.BundleEncoder command))) (first_unmet (render_rules maker.limits set command))
 
 -- The state of a bundle encoder is what its commands give.
-abbrev pub IsBundleOf : ℕ → TargetInfo → List Command → BundleState → Type 0
-IsBundleOf device targets earlier (drawn.Refused rule depth) = (bundle_verdict device targets earlier ≡ Some rule) × (depth ≡ debug_depth earlier)
-IsBundleOf device targets earlier (drawn.Drawing set) = (bundle_verdict device targets earlier ≡ None) × (set ≡ bundle_set targets earlier)
+abbrev pub IsBundleOf : Maker → TargetInfo → List Command → BundleState → Type 0
+IsBundleOf maker targets earlier (drawn.Refused rule depth) = (bundle_verdict maker targets earlier ≡ Some rule) × (depth ≡ debug_depth earlier)
+IsBundleOf maker targets earlier (drawn.Drawing set) = (bundle_verdict maker targets earlier ≡ None) × (set ≡ bundle_set targets earlier)
 
 -- What the recorder of a bundle encoder keeps is what its commands give.
-abbrev pub IsDrawnOf : ℕ → Option TargetInfo → Kept → BundleState → Type 0
-IsDrawnOf device None kept state = ⊥
-IsDrawnOf device (Some targets) kept state = IsBundleOf device targets (map (λ (one : On × Command). one.1) kept) state
+abbrev pub IsDrawnOf : Maker → Option TargetInfo → Kept → BundleState → Type 0
+IsDrawnOf maker None kept state = ⊥
+IsDrawnOf maker (Some targets) kept state = IsBundleOf maker targets (map (λ (one : On × Command). one.1) kept) state
 
 -- What is known of kept commands, which are those of a bundle encoder where there are targets.
-abbrev pub IsKnownOf : ℕ → Option TargetInfo → Kept → RecorderState → Type 0
-IsKnownOf device targets kept (known.Encoder walk) = (targets ≡ None) × IsWalkOf device kept walk
-IsKnownOf device targets kept (known.Bundle state) = IsDrawnOf device targets kept state.value
+abbrev pub IsKnownOf : Maker → Option TargetInfo → Kept → RecorderState → Type 0
+IsKnownOf maker targets kept (known.Encoder walk) = (targets ≡ None) × IsWalkOf maker kept walk
+IsKnownOf maker targets kept (known.Bundle state) = IsDrawnOf maker targets kept state.value

@@ -1,7 +1,8 @@
 //! What a recorder keeps.
-ghost use Rattle.std.specs.Prelude.{◌≡◌, ◌∷◌, ◌<◌, ◌++◌, [], ℕ, List, true, false, is_some, vec_len, vec_capacity, reverse, IfOk, OnOk, OnErr};
+ghost use Rattle.std.specs.Prelude.{◌≡◌, ◌∷◌, ◌<◌, ◌++◌, [], List, true, false, is_some, vec_len, vec_capacity, reverse, IfOk, OnOk, OnErr};
 ghost use Rattle.wg_types.specs.declared.commands.On.{On as OnOf};
 ghost use Rattle.wg_types.specs.Commands.{Command as CommandOf};
+ghost use Rattle.wg_types.specs.declared.limits.Maker.{Maker};
 ghost use Rattle.wg_encoder.specs.Walked.{IsKnownOf};
 ghost use Rattle.wg_encoder.specs.Kept.{commands_of, IsKeptOf, IsNaming};
 ghost use Rattle.wg_encoder.specs.Naming.{AreNamedOnce, IsNamedBy, HasRoomFor};
@@ -12,6 +13,7 @@ use crate::targets::RecorderTargets;
 use std::alloc::Global;
 use wg_types::NoMemory;
 use wg_types::commands::{Command, On};
+use wg_types::limits::Maker;
 
 /// The kept commands in order, each with what it stands on, what is known of them, and what they name.
 #[derive(Drop)]
@@ -25,7 +27,7 @@ impl KeptCommands {
     /// Nothing is kept.
     fn new(alloc: Global, targets: &RecorderTargets) -> Result<KeptCommands, NoMemory>
         ensures none { IfOk result (λ kept. kept.commands.items ≡ []) }
-        ensures known { (device : ℕ) → IfOk result (λ kept. IsKnownOf device targets.now [] kept.known) }
+        ensures known { (maker : Maker) → IfOk result (λ kept. IsKnownOf maker targets.now [] kept.known) }
         ensures naming { IfOk result (λ kept. AreNamedOnce [] kept.naming) }
     {
         let known = RecorderState::new(alloc, targets)?;
@@ -40,49 +42,42 @@ impl KeptCommands {
     fn prepare(
         &mut self,
         alloc: Global,
-        device: u64,
+        maker: &Maker,
         targets: &RecorderTargets,
         on: On,
         command: &Command,
     ) -> Result<(), NoMemory>
-        requires { IsKnownOf device targets.now (reverse self.old.commands.items) self.old.known }
+        requires { IsKnownOf maker.now targets.now (reverse self.old.commands.items) self.old.known }
         ensures same { self.new.commands.items ≡ self.old.commands.items }
         ensures same_names { (commands : List (OnOf × CommandOf)) → AreNamedOnce commands self.old.naming → AreNamedOnce commands self.new.naming }
         ensures named { OnOk result (IsNamedBy command.now self.new.naming.last) }
         ensures names_room { OnOk result (HasRoomFor self.new.naming self.new.naming.last) }
         ensures room { OnOk result (vec_len self.new.commands < vec_capacity self.new.commands) }
-        ensures ok { OnOk result (IsKnownOf device targets.now ((on, command.now) ∷ reverse self.old.commands.items) self.new.known) }
+        ensures ok { OnOk result (IsKnownOf maker.now targets.now ((on, command.now) ∷ reverse self.old.commands.items) self.new.known) }
         ensures err { OnErr result (self.new.known ≡ self.old.known) }
     {
         self.commands.reserve(1)?;
         self.naming.prepare(alloc, command)?;
-        self.known.note(
-            alloc,
-            device,
-            targets,
-            self.commands.as_slice(),
-            on,
-            command,
-        )
+        self.known.note(alloc, maker, targets, self.commands.as_slice(), on, command)
     }
 
     /// Adds a command.
     fn add(
         &mut self,
         alloc: Global,
-        device: u64,
+        maker: &Maker,
         targets: &RecorderTargets,
         on: On,
         command: Command,
     ) -> Result<(), NoMemory>
-        requires known { IsKnownOf device targets.now (reverse self.old.commands.items) self.old.known }
+        requires known { IsKnownOf maker.now targets.now (reverse self.old.commands.items) self.old.known }
         requires naming { AreNamedOnce self.old.commands.items self.old.naming }
-        ensures known { IsKnownOf device targets.now (reverse self.new.commands.items) self.new.known }
+        ensures known { IsKnownOf maker.now targets.now (reverse self.new.commands.items) self.new.known }
         ensures naming { AreNamedOnce self.new.commands.items self.new.naming }
         ensures ok { OnOk result (self.new.commands.items ≡ self.old.commands.items ++ (on, command) ∷ []) }
         ensures err { OnErr result (self.new.commands.items ≡ self.old.commands.items) }
     {
-        if let Err(error) = self.prepare(alloc, device, targets, on, &command) {
+        if let Err(error) = self.prepare(alloc, maker, targets, on, &command) {
             drop(command);
             return Err(error);
         }
@@ -102,7 +97,7 @@ fn make_place(
     requires { is_some kept.old ≡ false }
     ensures some { OnOk result (is_some kept.new ≡ true) }
     ensures same { commands_of kept.new ≡ commands_of kept.old }
-    ensures kept { (device : ℕ) → IsKeptOf device targets.now kept.old → IsKeptOf device targets.now kept.new }
+    ensures kept { (maker : Maker) → IsKeptOf maker targets.now kept.old → IsKeptOf maker targets.now kept.new }
     ensures naming { IsNaming kept.old → IsNaming kept.new }
 {
     let fresh = KeptCommands::new(alloc, targets)?;
@@ -118,7 +113,7 @@ fn make(
 ) -> Result<(), NoMemory>
     ensures some { OnOk result (is_some kept.new ≡ true) }
     ensures same { commands_of kept.new ≡ commands_of kept.old }
-    ensures kept { (device : ℕ) → IsKeptOf device targets.now kept.old → IsKeptOf device targets.now kept.new }
+    ensures kept { (maker : Maker) → IsKeptOf maker targets.now kept.old → IsKeptOf maker targets.now kept.new }
     ensures naming { IsNaming kept.old → IsNaming kept.new }
 {
     if kept.is_some() {
@@ -131,14 +126,14 @@ fn make(
 pub fn keep(
     kept: &mut Option<Box<KeptCommands>>,
     alloc: Global,
-    device: u64,
+    maker: &Maker,
     targets: &RecorderTargets,
     on: On,
     command: Command,
 ) -> Result<(), NoMemory>
-    requires kept { IsKeptOf device targets.now kept.old }
+    requires kept { IsKeptOf maker.now targets.now kept.old }
     requires naming { IsNaming kept.old }
-    ensures kept { IsKeptOf device targets.now kept.new }
+    ensures kept { IsKeptOf maker.now targets.now kept.new }
     ensures naming { IsNaming kept.new }
     ensures ok { OnOk result (commands_of kept.new ≡ commands_of kept.old ++ (on, command) ∷ []) }
     ensures err { OnErr result (commands_of kept.new ≡ commands_of kept.old) }
@@ -150,5 +145,5 @@ pub fn keep(
     let Some(held) = kept else {
         unreachable!();
     };
-    held.add(alloc, device, targets, on, command)
+    held.add(alloc, maker, targets, on, command)
 }

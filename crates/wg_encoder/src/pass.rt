@@ -1,6 +1,7 @@
 //! One pass: its state, in place of a walk over its commands.
 ghost use Rattle.std.specs.Prelude.{◌≡◌, [], List, true, IfOk, OnOk, OnErr};
 ghost use Rattle.wg_types.specs.Commands.{Command, is_begin};
+ghost use Rattle.wg_types.specs.declared.limits.Maker.{Maker};
 ghost use Rattle.wg_model.specs.Compute.{compute_does};
 ghost use Rattle.wg_model.specs.Render.{render_does};
 ghost use Rattle.wg_model.specs.Walk.{compute_rule, render_rule};
@@ -16,6 +17,7 @@ use wg_compute::ComputeState;
 use wg_render::{RenderState, check_begin};
 use wg_types::NoMemory;
 use wg_types::commands::Command;
+use wg_types::limits::Maker;
 use wg_types::steps::StepName;
 use wg_types::wanted::Kind;
 
@@ -29,11 +31,11 @@ pub enum PassState {
 
 /// The state of a pass that was just begun.
 #[tactic(auto, using(crate::proofs::PassLemmas::named_refused))]
-pub fn begin(alloc: Global, device: u64, command: &Command) -> Result<PassState, NoMemory>
+pub fn begin(alloc: Global, maker: &Maker, command: &Command) -> Result<PassState, NoMemory>
     requires { is_begin command.now ≡ true }
-    ensures { IfOk result (λ state. IsStateOf device command.now [] state) }
+    ensures { IfOk result (λ state. IsStateOf maker.now command.now [] state) }
 {
-    if let Some(rule) = check_named(device, command) {
+    if let Some(rule) = check_named(maker.device, command) {
         return Ok(PassState::Refused(rule));
     }
     let Some(begin) = command.render_begun() else {
@@ -47,23 +49,23 @@ pub fn begin(alloc: Global, device: u64, command: &Command) -> Result<PassState,
 }
 
 /// The first unmet rule of a command of a compute pass.
-fn check_compute(set: &ComputeState, device: u64, command: &Command) -> Option<u16>
-    ensures { result ≡ compute_rule device set.now command.now }
+fn check_compute(set: &ComputeState, maker: &Maker, command: &Command) -> Option<u16>
+    ensures { result ≡ compute_rule maker.now set.now command.now }
 {
-    if let Some(rule) = check_named_on(device, Kind::ComputePass, command) {
+    if let Some(rule) = check_named_on(maker.device, Kind::ComputePass, command) {
         return Some(rule);
     }
     set.rule(command)
 }
 
 /// The first unmet rule of a command of a render pass.
-fn check_render(set: &RenderState, device: u64, command: &Command) -> Option<u16>
-    ensures { result ≡ render_rule device set.now command.now }
+fn check_render(set: &RenderState, maker: &Maker, command: &Command) -> Option<u16>
+    ensures { result ≡ render_rule maker.now set.now command.now }
 {
-    if let Some(rule) = check_named_on(device, Kind::RenderPass, command) {
+    if let Some(rule) = check_named_on(maker.device, Kind::RenderPass, command) {
         return Some(rule);
     }
-    set.rule(command)
+    set.rule(&maker.limits, command)
 }
 
 /// Takes a command of a compute pass no rule of which is unmet, and adds the step of a dispatch to what is done.
@@ -111,17 +113,17 @@ pub fn take(
     state: &mut PassState,
     done: &mut Done,
     alloc: Global,
-    device: u64,
+    maker: &Maker,
     command: &Command,
 ) -> Result<Option<u16>, NoMemory>
-    ensures ok { (begin : Command) (earlier : List Command) → IsStateOf device begin earlier state.old → IfOk result (λ rule. IsTaken device begin earlier command.now state.new done.old done.new rule) }
+    ensures ok { (begin : Command) (earlier : List Command) → IsStateOf maker.now begin earlier state.old → IfOk result (λ rule. IsTaken maker.now begin earlier command.now state.new done.old done.new rule) }
     ensures err { OnErr result (state.new ≡ state.old) }
     ensures none_done { OnErr result (done.new ≡ done.old) }
 {
     match state {
         PassState::Refused(rule) => return Ok(Some(*rule)),
         PassState::Compute(set) => {
-            if let Some(rule) = check_compute(set, device, command) {
+            if let Some(rule) = check_compute(set, maker, command) {
                 *state = PassState::Refused(rule);
                 return Ok(Some(rule));
             }
@@ -129,7 +131,7 @@ pub fn take(
             return Ok(None);
         }
         PassState::Render(pass) => {
-            if let Some(rule) = check_render(pass, device, command) {
+            if let Some(rule) = check_render(pass, maker, command) {
                 *state = PassState::Refused(rule);
                 return Ok(Some(rule));
             }

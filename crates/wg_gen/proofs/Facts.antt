@@ -6,6 +6,7 @@ use Rattle.wg_types.specs.declared.commands.CommandOf.TheVariants.{CopyBufferToB
 use Rattle.wg_types.specs.declared.commands.On.TheVariants as on
 use Rattle.wg_types.specs.declared.handles.Info.TheVariants as info
 use Rattle.wg_types.specs.declared.handles.ObjRef.{ObjRef}
+use Rattle.wg_types.specs.declared.limits.Maker.{Maker}
 use Rattle.wg_trace.specs.declared.replies.Answer.TheVariants.{Made, Queued, Plain}
 use Rattle.wg_trace.specs.declared.replies.Reply.{Reply}
 use Rattle.wg_trace.specs.declared.steps.Sort.TheVariants as sort
@@ -23,6 +24,7 @@ use Rattle.wg_history.specs.Answers.{IsRun}
 use Rattle.wg_history.specs.Releases.{is_released}
 use Rattle.wg_history.specs.Budget.{bytes_at}
 use Rattle.wg_history.specs.Traces.{trace_after}
+use Rattle.wg_calls.specs.Judged.{maker_of}
 use Rattle.wg_play.specs.Play.{setup_with}
 use Rattle.wg_gen.specs.declared.draws.Spot.{Spot}
 use Rattle.wg_gen.specs.Generator.{buffer_info}
@@ -31,6 +33,10 @@ use Rattle.wg_gen.specs.Counts.{is_fault, is_free}
 -- the device of a generated script
 abbrev pub device : Setup
 device = setup_with 1000000 default_limits
+
+-- by whose number and limits what its lanes record is judged
+abbrev pub device_maker : Maker
+device_maker = maker_of device
 
 -- ---- spots
 
@@ -61,7 +67,7 @@ copy spot = CopyBufferToBuffer (buffer_handle spot.source) spot.offset (buffer_h
 
 -- the finish of encoder n, which has kept one copy
 abbrev pub finish : ℕ → Spot → Event
-finish n spot = event.Finish (ref n) (record { device = 1; targets = None; commands = (on.Encoder, copy spot) ∷ [] })
+finish n spot = event.Finish (ref n) (record { maker = device_maker; targets = None; commands = (on.Encoder, copy spot) ∷ [] })
 
 abbrev pub submit : ℕ → Event
 submit n = event.Submit (ref n ∷ [])

@@ -46,7 +46,7 @@ use Rattle.wg_history.proofs.AfterUse.{stands}
 use Rattle.wg_gen.specs.declared.draws.Spot.{Spot}
 use Rattle.wg_gen.specs.Generator.{buffer_info}
 use Rattle.wg_gen.specs.Counts.{is_fault, is_free}
-use Rattle.wg_gen.proofs.Facts.{device, IsSpot, ref, buffer_handle, create_buffer, write, copy, finish, submit, made, queued, entry_of, IsBuffer, Calm, Encodes, Submits}
+use Rattle.wg_gen.proofs.Facts.{device, device_maker, IsSpot, ref, buffer_handle, create_buffer, write, copy, finish, submit, made, queued, entry_of, IsBuffer, Calm, Encodes, Submits}
 
 -- ---- releases in the trace
 
@@ -374,7 +374,7 @@ create_calm past who calm = calm_same (entry_of who event.CreateEncoder (made pa
 -- ---- a finish
 
 -- a copy between two buffers meets its rules
-copy_met : (spot : Spot) → IsSpot spot → Verdict 1 None ((on.Encoder, copy spot) ∷ []) ≡ None
+copy_met : (spot : Spot) → IsSpot spot → Verdict device_maker None ((on.Encoder, copy spot) ∷ []) ≡ None
 copy_met spot good =
     let aligned = ap (λ (m : ℕ). m == 0 && m == 0 && 128 % 4 == 0) good.aligned in
     let fits = ap (λ (b : Bool). b && b) (spot_fits spot.offset 128 good.fits (omega arith)) in
@@ -404,12 +404,12 @@ encoder_met past who n calm encoder =
 
 -- what the encoder has kept
 abbrev recorded : Spot → RecordingValue
-recorded spot = record { device = 1; targets = None; commands = (on.Encoder, copy spot) ∷ [] }
+recorded spot = record { maker = device_maker; targets = None; commands = (on.Encoder, copy spot) ∷ [] }
 
 recording_met : (past : Past) (n : ℕ) (spot : Spot) → Calm 8 past → IsSpot spot → first_unmet (recording_rules device past n (recorded spot)) ≡ None
 recording_met past n spot calm good =
     let genuine = ap₂ (λ (source target : Bool). not ((source || (target || false)) || false)) (unbarred past n spot.source calm good.source) (unbarred past n spot.target calm good.target) in
-    let compatible = no_scope (is_none (Verdict 1 None (recorded spot).commands) && true) in
+    let compatible = no_scope (is_none (Verdict device_maker None (recorded spot).commands) && true) in
     none_unmet (recording_rules device past n (recorded spot)) (refl, (refl, (genuine, (compatible, tt))))
 
 finish_met : (past : Past) (who n : ℕ) (spot : Spot) → Calm 8 past → IsSpot spot → Encodes past who n → first_rule device past (finish n spot) ≡ None

@@ -13,7 +13,7 @@ use Rattle.wg_play.specs.Objects.{handle_at}
 use Rattle.wg_play.specs.Lanes.{LaneState}
 use Rattle.wg_gen.specs.declared.draws.Spot.{Spot}
 use Rattle.wg_gen.specs.Generator.{iterations, creation, destruction}
-use Rattle.wg_gen.proofs.Facts.{ref, buffer_handle}
+use Rattle.wg_gen.proofs.Facts.{device, device_maker, ref, buffer_handle}
 
 -- ---- objects
 
@@ -25,11 +25,11 @@ command_handle n = record { reference = ref n; valid = true; info = info.Command
 
 -- an encoder that is open and has kept nothing
 abbrev pub encoder : ℕ → Object
-encoder n = object.Made (encoder_handle n) (Some (opened_for (ref n)))
+encoder n = object.Made (encoder_handle n) (Some (opened_for device.limits (ref n)))
 
 -- one that has kept a copy and was finished
 abbrev pub spent : ℕ → Object
-spent n = object.Made (encoder_handle n) (Some (record { device = 1; targets = None; encoder = Some (ref n); commands = []; takes = 1; passes = 0 }))
+spent n = object.Made (encoder_handle n) (Some (record { maker = device_maker; targets = None; encoder = Some (ref n); commands = []; takes = 1; passes = 0 }))
 
 abbrev pub command_buffer : ℕ → Object
 command_buffer n = object.Made (command_handle n) None

@@ -16,7 +16,7 @@ use Rattle.wg_trace.specs.declared.replies.Answer.TheVariants.{Made}
 use Rattle.wg_trace.specs.declared.replies.Reply.{Reply}
 use Rattle.wg_types.specs.declared.requests.RequestOf.TheVariants.{Finish, Submit, Complete}
 use Rattle.wg_encoder.specs.Recorders.{RecorderValue, after_take, targets_left}
-use Rattle.wg_calls.specs.Calls.{opened_for, handle_of}
+use Rattle.wg_calls.specs.Calls.{unlimited, opened_for, handle_of}
 use Rattle.wg_history.specs.declared.events.Event.{Event}
 use Rattle.wg_history.specs.declared.events.Event.TheVariants as event
 use Rattle.wg_script.specs.CallOf.{BoundCall}
@@ -30,7 +30,7 @@ use Rattle.wg_play.specs.Lanes.{LaneState, kept, command_seen, stand_seen, noted
 use Rattle.wg_play.proofs.Slots.{with_tail, recorder_new, stand_encoder}
 use Rattle.wg_gen.specs.declared.draws.Spot.{Spot}
 use Rattle.wg_gen.specs.Generator.{iterations, buffer_info, eight, creation, destruction}
-use Rattle.wg_gen.proofs.Facts.{IsSpot, ref, buffer_handle, create_buffer, write, copy, finish, submit, destroy}
+use Rattle.wg_gen.proofs.Facts.{IsSpot, device, device_maker, ref, buffer_handle, create_buffer, write, copy, finish, submit, destroy}
 use Rattle.wg_gen.proofs.Stages.{encoder_handle, command_handle, encoder, spent, command_buffer, buffer, between, written, opened, finished, lane_in, SeesBuffers, creations, destructions, buffers_below, creating, destroying}
 
 -- ---- what a slot stands for
@@ -67,7 +67,7 @@ at_second (x ∷ before) one two = at_second before one two
 
 -- an encoder that has kept a copy
 abbrev kept_recorder : ℕ → Spot → RecorderValue
-kept_recorder n spot = record { device = 1; targets = None; encoder = Some (ref n); commands = (on.Encoder, copy spot) ∷ []; takes = 0; passes = 0 }
+kept_recorder n spot = record { maker = device_maker; targets = None; encoder = Some (ref n); commands = (on.Encoder, copy spot) ∷ []; takes = 0; passes = 0 }
 
 abbrev keeper : ℕ → Spot → Object
 keeper n spot = object.Made (encoder_handle n) (Some (kept_recorder n spot))
@@ -83,7 +83,7 @@ write_next others first before spot spots sees is =
     ap (λ (h : HandleValue). Some (event.WriteBuffer h.reference spot.offset 64)) (buffer_seen others first (before ++ []) spot.source sees is.source)
 
 pub write_after : (others : List Object) (first : ℕ) (before : List Object) (spot : Spot) (spots : List Spot) (reply : Reply)
-    → after_reply 1 (lane_in others first before (between (spot ∷ spots))) reply ≡ lane_in others first before (written spot spots)
+    → after_reply device (lane_in others first before (between (spot ∷ spots))) reply ≡ lane_in others first before (written spot spots)
 write_after others first before spot spots reply = refl
 
 pub create_next : (others : List Object) (first : ℕ) (before : List Object) (spot : Spot) (spots : List Spot) → next_event (lane_in others first before (written spot spots)) ≡ Some event.CreateEncoder
@@ -101,11 +101,11 @@ abbrev copy_left : ℕ → Spot → BoundCall
 copy_left slot spot = Record slot (CopyBufferToBuffer spot.source spot.offset spot.target spot.offset 128) None
 
 pub create_after : (others : List Object) (first : ℕ) (before : List Object) (spot : Spot) (spots : List Spot) (n : ℕ) (reply : Reply) → reply.answer ≡ Made n true
-    → after_reply 1 (lane_in others first before (written spot spots)) reply ≡ lane_in others first before (opened n spot spots)
+    → after_reply device (lane_in others first before (written spot spots)) reply ≡ lane_in others first before (opened n spot spots)
 create_after others first before spot spots n reply made =
     let slot : ℕ = first + length before in
     let left : List BoundCall = copy_left slot spot ∷ ends_left slot spots in
-    ap (λ (a : Answer). lane_with left (with_handle (sight_with others first (before ++ [])) (handle_of 1 info.Encoder a))) made
+    ap (λ (a : Answer). lane_with left (with_handle device.limits (sight_with others first (before ++ [])) (handle_of 1 info.Encoder a))) made
     ∙ ap (λ (os : List Object). lane_with left (sight_with others first (os ++ encoder n ∷ []))) (append-nil before)
 
 -- ---- with an encoder open
@@ -125,9 +125,9 @@ copy_kept others first before n spot sees is =
     let sight : Sight = sight_with others first own in
     let asked : CommandOf ℕ = CopyBufferToBuffer spot.source spot.offset spot.target spot.offset 128 in
     let here : Stand = record { encoder = length before; on = on.Encoder } in
-    let found : recorder_at own (length before) ≡ Some (opened_for (ref n)) = recorder_new before (encoder n) in
+    let found : recorder_at own (length before) ≡ Some (opened_for device.limits (ref n)) = recorder_new before (encoder n) in
     let stands : stand_seen sight (first + length before) ≡ here
-    = ap (λ place. stand_at own place) (place_back first (length before)) ∙ stand_encoder own (length before) (opened_for (ref n)) found in
+    = ap (λ place. stand_at own place) (place_back first (length before)) ∙ stand_encoder own (length before) (opened_for device.limits (ref n)) found in
     ap (λ (stand : Stand). if is_late_on own stand then None else Some (noted_on sight stand (command_seen sight asked) None)) stands
     ∙ ap (λ (r : Option RecorderValue). if option_map_or (is_late_by on.Encoder) r true then None else Some (noted_on sight here (command_seen sight asked) None)) found
     ∙ ap (λ (command : Command). Some (noted_on sight here command None)) (copy_seen others first own spot sees is)
@@ -147,21 +147,21 @@ pub finish_next : (others : List Object) (first : ℕ) (before : List Object) (n
 finish_next others first before n spot spots sees is =
     let own : List Object = before ++ keeper n spot ∷ [] in
     let seen : HandleValue = handle_in_sight (sight_with others first own) (first + length before) in
-    let without : Event = event.Finish seen.reference (record { device = seen.reference.device; targets = None; commands = [] }) in
+    let without : Event = event.Finish seen.reference (record { maker = unlimited seen.reference; targets = None; commands = [] }) in
     ap (λ (lane : LaneState). next_at lane) (open_settled others first before n spot spots sees is)
     ∙ ap (λ (place : ℕ). Some (finish_by (recorder_at own place) without)) (place_back first (length before))
     ∙ ap (λ (r : Option RecorderValue). Some (finish_by r without)) (recorder_new before (keeper n spot))
 
 pub finish_after : (others : List Object) (first : ℕ) (before : List Object) (n : ℕ) (spot : Spot) (spots : List Spot) (m : ℕ) (reply : Reply) → SeesBuffers others first → IsSpot spot → reply.answer ≡ Made m true
-    → after_reply 1 (lane_in others first before (opened n spot spots)) reply ≡ lane_in others first before (finished n m spots)
+    → after_reply device (lane_in others first before (opened n spot spots)) reply ≡ lane_in others first before (finished n m spots)
 finish_after others first before n spot spots m reply sees is made =
     let slot : ℕ = first + length before in
     let own : List Object = before ++ keeper n spot ∷ [] in
     let left : List BoundCall = Ask (Submit ((slot + 1) ∷ [])) None ∷ iterations (slot + 2) spots in
     let take : RecorderValue → RecorderValue = λ r. record r { targets = targets_left r.targets; commands = []; takes = after_take r.takes } in
     let known : Option RecorderValue → Option Info = λ r. finish_known r (Some info.CommandBuffer) in
-    let after : ℕ → Option Info → Answer → LaneState = λ place k a. lane_with left (with_handle (sight_with others first (taken_on own place)) (handle_known 1 k a)) in
-    ap (λ (lane : LaneState). after_at 1 lane reply) (open_settled others first before n spot spots sees is)
+    let after : ℕ → Option Info → Answer → LaneState = λ place k a. lane_with left (with_handle device.limits (sight_with others first (taken_on own place)) (handle_known device k a)) in
+    ap (λ (lane : LaneState). after_at device lane reply) (open_settled others first before n spot spots sees is)
     ∙ ap (λ (place : ℕ). after place (known (recorder_at own place)) reply.answer) (place_back first (length before))
     ∙ ap (λ (r : Option RecorderValue). after (length before) (known r) reply.answer) (recorder_new before (keeper n spot))
     ∙ ap (λ (a : Answer). after (length before) (Some info.CommandBuffer) a) made
@@ -180,7 +180,7 @@ submit_next others first before n m spots sees =
     ap (λ (h : HandleValue). Some (event.Submit (h.reference ∷ []))) seen
 
 pub submit_after : (others : List Object) (first : ℕ) (before : List Object) (n m : ℕ) (spots : List Spot) (reply : Reply)
-    → after_reply 1 (lane_in others first before (finished n m spots)) reply ≡ lane_in others first (before ++ spent n ∷ command_buffer m ∷ []) (between spots)
+    → after_reply device (lane_in others first before (finished n m spots)) reply ≡ lane_in others first (before ++ spent n ∷ command_buffer m ∷ []) (between spots)
 submit_after others first before n m spots reply =
     let own : List Object = before ++ spent n ∷ command_buffer m ∷ [] in
     let count : length own ≡ length before + 2 = length-append before (spent n ∷ command_buffer m ∷ []) in
@@ -196,8 +196,8 @@ creating_none k = refl
 pub creating_next : (k n : ℕ) → next_event (creating k (suc n)) ≡ Some create_buffer
 creating_next k n = refl
 
-pub creating_after : (k n : ℕ) (reply : Reply) → reply.answer ≡ Made k true → after_reply 1 (creating k (suc n)) reply ≡ creating (suc k) n
-creating_after k n reply made = ap (λ (a : Answer). lane_with (creations (suc k) n) (with_handle (sight_with [] 0 (buffers_below k)) (handle_of 1 (info.Buffer buffer_info) a))) made
+pub creating_after : (k n : ℕ) (reply : Reply) → reply.answer ≡ Made k true → after_reply device (creating k (suc n)) reply ≡ creating (suc k) n
+creating_after k n reply made = ap (λ (a : Answer). lane_with (creations (suc k) n) (with_handle device.limits (sight_with [] 0 (buffers_below k)) (handle_of 1 (info.Buffer buffer_info) a))) made
 
 pub buffers_length : (k : ℕ) → length (buffers_below k) ≡ k
 buffers_length zero = refl
@@ -232,7 +232,7 @@ destroying_none others first k = refl
 pub destroying_next : (others : List Object) (first k n : ℕ) → SeesBuffers others first → k < 8 → next_event (destroying others first k (suc n)) ≡ Some (destroy k)
 destroying_next others first k n sees small = ap (λ (h : HandleValue). Some (event.Destroy h.reference)) (buffer_seen others first [] k sees small)
 
-pub destroying_after : (others : List Object) (first k n : ℕ) (reply : Reply) → after_reply 1 (destroying others first k (suc n)) reply ≡ destroying others first (suc k) n
+pub destroying_after : (others : List Object) (first k n : ℕ) (reply : Reply) → after_reply device (destroying others first k (suc n)) reply ≡ destroying others first (suc k) n
 destroying_after others first k n reply = refl
 
 pub destructions_are : map destruction eight ≡ destructions 0 8
@@ -243,5 +243,5 @@ pub complete_next : (others : List Object) (first op : ℕ) (left : List BoundCa
 complete_next others first op left = refl
 
 pub complete_after : (others : List Object) (first op : ℕ) (left : List BoundCall) (reply : Reply)
-    → after_reply 1 (record { sight = record { others = others; first = first; own = [] }; left = Ask (Complete op) None ∷ left }) reply ≡ record { sight = record { others = others; first = first; own = [] }; left = left }
+    → after_reply device (record { sight = record { others = others; first = first; own = [] }; left = Ask (Complete op) None ∷ left }) reply ≡ record { sight = record { others = others; first = first; own = [] }; left = left }
 complete_after others first op left reply = refl

@@ -1,7 +1,7 @@
 //! What is known of the objects that calls make of others.
-ghost use Rattle.std.specs.Prelude.{◌≡◌, [], false, Option, IfOk, map, option_copied};
+ghost use Rattle.std.specs.Prelude.{◌≡◌, [], false, Option, IfOk, map, option_copied, option_and_then};
 ghost use Rattle.wg_types.specs.declared.handles.Info.{Info as InfoOf};
-ghost use Rattle.wg_model.specs.Making.{known_buffer, known_texture, known_view, known_sampler, known_group_layout, known_pipeline_layout, bound_resource, bound_entry, view_made, pipeline_layout_made, group_made, layout_made, compute_made, render_made, group_layout_made, group_layout_got};
+ghost use Rattle.wg_model.specs.Making.{known_buffer, known_texture, known_view, known_sampler, known_group_layout, known_pipeline_layout, bound_resource, bound_entry, view_made, given_layouts, pipeline_layout_made, group_made, layout_made, compute_made, render_made, group_layout_made, group_layout_got};
 ghost use Rattle.std.specs.Option.{option_map_or};
 ghost use Rattle.wg_model.specs.Automatic.{automatic_layouts, entries_at};
 ghost use Rattle.wg_model.specs.Bound.{is_automatic};
@@ -19,7 +19,7 @@ use wg_types::groups::{
 };
 use wg_types::handles::{BufferInfo, Info, ObjRef};
 use wg_types::items::Items;
-use wg_types::refs::{Find, map_items, map_maybe};
+use wg_types::refs::{Find, map_maybe};
 use wg_types::render::RenderDesc;
 use wg_types::shared::Shared;
 use wg_types::textures::{TextureInfo, ViewDesc, ViewInfo};
@@ -124,17 +124,48 @@ fn known_pipeline_layout(
     }
 }
 
+/// What is known of a bind group layout, or of null, which has no entry.
+fn known_layout<R, K: Known<R>>(
+    alloc: Global,
+    known: &K,
+    layout: &Option<R>,
+) -> Result<Shared<GroupLayoutInfo>, NoMemory>
+    ensures { IfOk result (λ info. info ≡ known_group_layout (option_and_then (K.knows known.now) layout.now)) }
+{
+    match layout {
+        Some(layout) => known_group_layout(alloc, known.info(layout)),
+        None => known_group_layout(alloc, None),
+    }
+}
+
 /// What is known of the bind group layouts of a list.
 fn known_group_layouts<R, K: Known<R>>(
     alloc: Global,
     known: &K,
-    layouts: &[R],
+    layouts: &[Option<R>],
 ) -> Result<Items<Shared<GroupLayoutInfo>>, NoMemory>
-    ensures { IfOk result (λ found. found ≡ map (λ layout. known_group_layout (K.knows known.now layout)) layouts.now) }
+    ensures { IfOk result (λ found. found ≡ map (λ layout. known_group_layout (option_and_then (K.knows known.now) layout)) layouts.now) }
 {
     let mut found = Items::new(alloc);
     for layout in layouts {
-        found.push(known_group_layout(alloc, known.info(layout))?)?;
+        found.push(known_layout(alloc, known, layout)?)?;
+    }
+    Ok(found)
+}
+
+/// The bind group layouts of a list that are not null.
+fn given_layouts<R, F: Find<R, ObjRef>>(
+    alloc: Global,
+    find: &F,
+    layouts: &[Option<R>],
+) -> Result<Items<ObjRef>, NoMemory>
+    ensures { IfOk result (λ found. found ≡ given_layouts (F.finds find.now) layouts.now) }
+{
+    let mut found = Items::new(alloc);
+    for layout in layouts {
+        if let Some(layout) = layout {
+            found.push(find.find(layout)?)?;
+        }
     }
     Ok(found)
 }
@@ -207,17 +238,17 @@ pub fn view_made<R, F: Find<R, ObjRef>, K: Known<R>>(
 }
 
 /// What is known of a new pipeline layout (WebGPU, "Pipeline Layout Creation"). What is known of its
-/// bind group layouts is shared.
+/// bind group layouts is shared; a null one has no entry.
 pub fn pipeline_layout_made<R, F: Find<R, ObjRef>, K: Known<R>>(
     alloc: Global,
     find: &F,
     known: &K,
-    layouts: &[R],
+    layouts: &[Option<R>],
 ) -> Result<PipelineLayoutInfo, NoMemory>
     ensures { IfOk result (λ info. info ≡ pipeline_layout_made (F.finds find.now) (K.knows known.now) layouts.now) }
 {
     Ok(PipelineLayoutInfo {
-        layouts: map_items(alloc, find, layouts)?,
+        layouts: given_layouts(alloc, find, layouts)?,
         layouts_info: known_group_layouts(alloc, known, layouts)?,
     })
 }

@@ -289,15 +289,18 @@ touches_tell a b =
     Decides-like _ (like_two touch_made a.cells b.cells a.used b.used) (λ e. (ap (λ (x : BundleTouch). x.cells) e, ap (λ (x : BundleTouch). x.used) e))
     (Decides-and (same_cells a.cells b.cells) (bundle_use_number a.used == bundle_use_number b.used) (runs_tell a.cells b.cells) (words_tell bundle_use_number bundle_use_at bundle_use_back a.used b.used))
 
-abbrev bundle_made : TargetInfo → List ObjRef → List BundleTouch → BundleInfo
-bundle_made targets named touches = record { targets = targets; named = named; touches = touches }
+abbrev bundle_made : TargetInfo → List ObjRef → List BundleTouch → ℕ → BundleInfo
+bundle_made targets named touches draws = record { targets = targets; named = named; touches = touches; draws = draws }
 
 bundles_tell : (a b : BundleInfo) → Decides (same_bundle a b) (a ≡ b)
 bundles_tell a b =
-    Decides-like _ (like_three bundle_made a.targets b.targets a.named b.named a.touches b.touches) (λ e. ((ap (λ (x : BundleInfo). x.targets) e, ap (λ (x : BundleInfo). x.named) e), ap (λ (x : BundleInfo). x.touches) e))
+    Decides-like _ (like_four bundle_made a.targets b.targets a.named b.named a.touches b.touches a.draws b.draws)
+    (λ e. (((ap (λ (x : BundleInfo). x.targets) e, ap (λ (x : BundleInfo). x.named) e), ap (λ (x : BundleInfo). x.touches) e), ap (λ (x : BundleInfo). x.draws) e))
+    (Decides-and _ (a.draws == b.draws)
     (Decides-and _ (same_list same_touch a.touches b.touches)
     (Decides-and (same_target_info a.targets b.targets) (same_list same_reference a.named b.named) (target_infos_tell a.targets b.targets) (lists_tell same_reference references_tell a.named b.named))
     (lists_tell same_touch touches_tell a.touches b.touches))
+    (numbers_tell a.draws b.draws))
 
 -- Infos.
 pub infos_tell : SameInfoIs

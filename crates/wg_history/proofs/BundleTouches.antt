@@ -1,14 +1,15 @@
 -- What is known of the touches of a bundle: each is of a resource that its commands use, as such as they use it.
-use Rattle.std.proofs.Common.{◌≡◌, ℕ, ◌+◌, ◌==◌, nat_lt, min, Bool, true, false, ◌||◌, List, [], ◌∷◌, ◌++◌, map, filter, reverse, Option, Some, None, is_none, refl, ap, ap₂, sym, ◌∙◌, if◌then◌else◌, true≢false}
+use Rattle.std.proofs.Common.{◌≡◌, ℕ, ◌+◌, ◌==◌, nat_lt, min, Bool, true, false, ◌||◌, List, [], ◌∷◌, ◌++◌, map, filter, reverse, Option, Some, None, is_none, option_map, refl, ap, ap₂, sym, ◌∙◌, if◌then◌else◌, true≢false}
 use Rattle.std.specs.List.{list_any, flat_map}
 use Rattle.std.specs.Option.{option_map_or}
 use Rattle.std.proofs.lemmas.Bool.{or_left, or_right}
 use Rattle.std.proofs.lemmas.List.Folds.{list_any-append}
+use Rattle.wg_types.specs.declared.limits.Maker.{Maker}
 use Rattle.wg_types.specs.Handles.{HandleValue}
 use Rattle.wg_types.specs.Formats.{row}
 use Rattle.wg_types.specs.Textures.{depth}
 use Rattle.wg_types.specs.Bindings.{entry_of}
-use Rattle.wg_types.specs.Refs.{all_wanted}
+use Rattle.wg_types.specs.Refs.{all_wanted, maybe_wanted}
 use Rattle.wg_types.specs.Commands.{Command, named}
 use Rattle.wg_types.specs.declared.commands.On.{On}
 use Rattle.wg_types.specs.declared.commands.CommandOf.TheVariants.{SetBindGroup, SetVertexBuffer, SetIndexBuffer, DrawIndirect, DrawIndexedIndirect, ExecuteBundles}
@@ -43,6 +44,7 @@ use Rattle.wg_model.specs.Commands.{size_or_rest}
 use Rattle.wg_model.specs.Touches.{Touch, use_of, access_of, has_cells, deed_of}
 use Rattle.wg_model.specs.Bound.{Place, known_group, place_of, entry_places, places_in, set_places, kind_touch, resource_cells, place_touches}
 use Rattle.wg_model.specs.Bundles.{known_bundle, bundle_touch, known_touches, executed_touches, is_used_so, no_cells, part_touched, cells_touched, touched_so, bundle_touches, buffer_in, texture_in, query_set_in, in_bundle}
+use Rattle.wg_model.specs.Settings.{bound_with}
 use Rattle.wg_model.specs.Render.{bundle_set, command_touches, bound_group_touches, touches_over}
 use Rattle.wg_model.specs.Walk.{bundled, bundle_verdict, bundle_of}
 use Rattle.wg_model.specs.Recorded.{bound_buffer, bound_texture, in_group, buffers_as, textures_as, query_sets_as, numbers_by, buffers_of, textures_of, query_sets_of, resources, any_named, any_resource}
@@ -313,9 +315,10 @@ group_unbound buffer_word n group e = e
 group_unbound texture_word n group e = e
 group_unbound query_word n group e = none_in_group n (known_group group)
 
-group_spared : (word : Word) (n index : ℕ) (group : HandleValue) (offsets : List ℕ) → Lacks n (numbers_by (reached_by word) ((group, wanted.Group) ∷ [])) → AreSpared word n (bound_group_touches (Some (index, record { group = group; offsets = offsets })))
-group_spared word n index group offsets e =
-    places_spared word n (set_places (Some (record { group = group; offsets = offsets })))
+group_spared : (word : Word) (n index : ℕ) (group : Option HandleValue) (offsets : List ℕ) → Lacks n (numbers_by (reached_by word) (maybe_wanted wanted.Group group)) → AreSpared word n (bound_group_touches (Some (index, option_map (bound_with offsets) group)))
+group_spared word n index None offsets e = tt
+group_spared word n index (Some group) offsets e =
+    places_spared word n (set_places (Some (bound_with offsets group)))
     (info_unbound word n (known_group group) offsets (group_unbound word n group (lacks_parts n (reached_by word wanted.Group group) [] e).0))
 
 -- inputs
@@ -353,8 +356,9 @@ executed_spared word n (bundle ∷ bundles) e =
 
 command_spared : (word : Word) (n : ℕ) (command : Command) → Lacks n (reached_of (reached_by word) command) → AreSpared word n (command_touches None command)
 command_spared word n (SetBindGroup index group offsets) e =
-    each_append (λ (touch : Touch). Spares word n touch.0) (bound_group_touches (Some (index, record { group = group; offsets = offsets }))) [] (group_spared word n index group offsets e) tt
-command_spared word n (SetVertexBuffer slot buffer offset size) e = (input_spared word n buffer offset (offset + size_or_rest buffer offset size) e, tt)
+    each_append (λ (touch : Touch). Spares word n touch.0) (bound_group_touches (Some (index, option_map (bound_with offsets) group))) [] (group_spared word n index group offsets e) tt
+command_spared word n (SetVertexBuffer slot None offset size) e = tt
+command_spared word n (SetVertexBuffer slot (Some buffer) offset size) e = (input_spared word n buffer offset (offset + size_or_rest buffer offset size) e, tt)
 command_spared word n (SetIndexBuffer buffer format offset size) e = (input_spared word n buffer offset (offset + size_or_rest buffer offset size) e, tt)
 command_spared word n (DrawIndirect buffer offset) e = (input_spared word n buffer offset (offset + 16) e, tt)
 command_spared word n (DrawIndexedIndirect buffer offset) e = (input_spared word n buffer offset (offset + 20) e, tt)
@@ -377,10 +381,10 @@ all_lack word n (kept ∷ older) e =
     let rest : any_named (reached_of (reached_by word)) (λ r. r == n) older ≡ false = or_second (list_any (λ r. r == n) (reached_of (reached_by word) kept.1)) (any_named (reached_of (reached_by word)) (λ r. r == n) older) e in
     (or_first (list_any (λ r. r == n) (reached_of (reached_by word) kept.1)) (any_named (reached_of (reached_by word)) (λ r. r == n) older) e, all_lack word n older rest)
 
-bundle_spared : (word : Word) (n device : ℕ) (targets : Option TargetInfo) (commands : List (On × Command)) → any_named (reached_of (reached_by word)) (λ r. r == n) commands ≡ false
-    → Lacks n (in_bundle (numbers_in word) (Some (bundle_of device targets commands)))
-bundle_spared word n device None commands e = refl
-bundle_spared word n device (Some targets) commands e = by_verdict (is_none (bundle_verdict device targets (bundled commands)))
+bundle_spared : (word : Word) (n : ℕ) (maker : Maker) (targets : Option TargetInfo) (commands : List (On × Command)) → any_named (reached_of (reached_by word)) (λ r. r == n) commands ≡ false
+    → Lacks n (in_bundle (numbers_in word) (Some (bundle_of maker targets commands)))
+bundle_spared word n maker None commands e = refl
+bundle_spared word n maker (Some targets) commands e = by_verdict (is_none (bundle_verdict maker targets (bundled commands)))
   where
     back : any_named (reached_of (reached_by word)) (λ r. r == n) (reverse commands) ≡ false
     back = any_reversed (λ (kept : On × Command). list_any (λ r. r == n) (reached_of (reached_by word) kept.1)) commands ∙ e
@@ -390,10 +394,10 @@ bundle_spared word n device (Some targets) commands e = by_verdict (is_none (bun
     by_verdict false = refl
 
 -- What is known to be touched by the bundle that a recording makes is used by the commands.
-pub bundle_uses : (word : Word) (n device : ℕ) (targets : Option TargetInfo) (commands : List (On × Command)) → list_any (λ r. r == n) (in_bundle (numbers_in word) (Some (bundle_of device targets commands))) ≡ true
+pub bundle_uses : (word : Word) (n : ℕ) (maker : Maker) (targets : Option TargetInfo) (commands : List (On × Command)) → list_any (λ r. r == n) (in_bundle (numbers_in word) (Some (bundle_of maker targets commands))) ≡ true
     → any_named (reached_of (reached_by word)) (λ r. r == n) commands ≡ true
-bundle_uses word n device targets commands used = by_named (any_named (reached_of (reached_by word)) (λ r. r == n) commands) refl
+bundle_uses word n maker targets commands used = by_named (any_named (reached_of (reached_by word)) (λ r. r == n) commands) refl
   where
     by_named : (b : Bool) → any_named (reached_of (reached_by word)) (λ r. r == n) commands ≡ b → b ≡ true
     by_named true e = refl
-    by_named false e = absurd (true≢false (sym used ∙ bundle_spared word n device targets commands e))
+    by_named false e = absurd (true≢false (sym used ∙ bundle_spared word n maker targets commands e))

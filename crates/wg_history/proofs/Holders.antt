@@ -6,6 +6,7 @@ use Rattle.std.proofs.lemmas.Bool.{and_parts, and_from, or_cases, or_left, or_ri
 use Rattle.std.proofs.lemmas.List.{map-append}
 use Rattle.std.proofs.lemmas.List.Folds.{list_any-append}
 use Rattle.wg_rules.specs.declared.TheConstants.{OBJECT_IS_OF_DEVICE, OBJECT_IS_NOT_DROPPED}
+use Rattle.wg_types.specs.declared.limits.Maker.{Maker}
 use Rattle.wg_types.specs.Handles.{HandleValue}
 use Rattle.wg_types.specs.declared.commands.On.{On}
 use Rattle.wg_types.specs.Commands.{Command, named}
@@ -221,7 +222,7 @@ pub finish_names : (setup : Setup) (older : Past) (event : Event) (n : ℕ) → 
 unfolding finish_rule
 finish_names setup older (Finish encoder recording) n made names =
     let rules = neither _ _ (and_parts (not (is_lost older)) (is_none (finish_rule setup older encoder recording)) made).1 in
-    let late = neither (Verdict recording.device recording.targets recording.commands) (first_unmet (recording_rules setup older encoder.number recording)) rules.1 in
+    let late = neither (Verdict recording.maker recording.targets recording.commands) (first_unmet (recording_rules setup older encoder.number recording)) rules.1 in
     let rest : AreMet (recording_rules setup older encoder.number recording) = all_met (recording_rules setup older encoder.number recording) late.1 in
     recording_names setup older is_encoder encoder recording.commands n encoder_takes (all_met (encoder_rules setup older is_encoder encoder) rules.0) (not_true _ rest.1.1.0) names
 finish_names setup older _ n made names = absurd (true≢false (sym names))
@@ -232,7 +233,7 @@ bundle_names : (setup : Setup) (older : Past) (encoder : ObjRef) (recording : Re
 unfolding finish_bundle_rule
 bundle_names setup older encoder recording n met names =
     let rules = neither _ _ met in
-    let late = neither (Verdict recording.device recording.targets recording.commands) (first_unmet (kept_rules setup older encoder.number recording)) rules.1 in
+    let late = neither (Verdict recording.maker recording.targets recording.commands) (first_unmet (kept_rules setup older encoder.number recording)) rules.1 in
     let rest : AreMet (kept_rules setup older encoder.number recording) = all_met (kept_rules setup older encoder.number recording) late.1 in
     recording_names setup older is_bundle_encoder encoder recording.commands n bundle_encoder_takes (all_met (encoder_rules setup older is_bundle_encoder encoder) rules.0) (not_true _ rest.1.0) names
 
@@ -246,15 +247,15 @@ reference_numbers (kept ∷ commands) =
     map-append (λ (object : ObjRef). object.number) (map (λ (object : HandleValue × Wanted). object.0.reference) (named kept.1)) (references_within commands)
     ∙ ap₂ ◌++◌ (object_numbers (named kept.1)) (reference_numbers commands)
 
-pub bundle_numbers : (device : ℕ) (targets : Option TargetInfo) (commands : List (On × Command)) → map (λ (object : ObjRef). object.number) (bundle_of device targets commands).named ≡ names_within commands
-bundle_numbers device None commands = reference_numbers commands
-bundle_numbers device (Some targets) commands = reference_numbers commands
+pub bundle_numbers : (maker : Maker) (targets : Option TargetInfo) (commands : List (On × Command)) → map (λ (object : ObjRef). object.number) (bundle_of maker targets commands).named ≡ names_within commands
+bundle_numbers maker None commands = reference_numbers commands
+bundle_numbers maker (Some targets) commands = reference_numbers commands
 
 -- What a valid object refers to when it is made was made, and is held by something that is no object.
 pub refers_root : (setup : Setup) (older : Past) (event : Event) (n : ℕ) → is_made_valid (answer_by older (effects_of event).form (not (is_lost older) && is_none (first_rule setup older event))) ≡ true → is_among (refers_made event) n ≡ true → (n < count older) × (is_root setup older n ≡ true)
 refers_root setup older (FinishBundle encoder recording) n made refers =
     bundle_names setup older encoder recording n (and_parts (not (is_lost older)) (is_none (finish_bundle_rule setup older encoder recording)) made).1
-    (ap (λ (list : List ℕ). is_among list n) (sym (bundle_numbers recording.device recording.targets recording.commands)) ∙ refers)
+    (ap (λ (list : List ℕ). is_among list n) (sym (bundle_numbers recording.maker recording.targets recording.commands)) ∙ refers)
 refers_root setup older event n made refers =
     let those = object_refers setup older event n refl made refers in
     (those.0, undropped_root setup older n those.1)

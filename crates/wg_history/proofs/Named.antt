@@ -3,7 +3,7 @@ use Rattle.std.proofs.Common.{◌≡◌, ℕ, ◌<◌, List, [], ◌∷◌, ◌+
 use Rattle.std.specs.List.{list_any}
 use Rattle.std.specs.Option.{option_map_or}
 use Rattle.std.proofs.lemmas.Bool.{and_parts, or_cases, eqb-true}
-use Rattle.wg_types.specs.Refs.{all_wanted, maybe_wanted}
+use Rattle.wg_types.specs.Refs.{some_wanted, maybe_wanted}
 use Rattle.wg_types.specs.Bindings.{resource_named, entries_named}
 use Rattle.wg_types.specs.declared.wanted.Wanted.{Wanted}
 use Rattle.wg_types.specs.declared.handles.Info.{Info}
@@ -19,7 +19,7 @@ use Rattle.wg_model.specs.Automatic.{derived_rules, get_layout_rules}
 use Rattle.wg_model.specs.Groups.{group_rules}
 use Rattle.wg_model.specs.Pipelines.{compute_pipeline_rules}
 use Rattle.wg_model.specs.RenderPipelines.{render_pipeline_rules}
-use Rattle.wg_model.specs.Making.{bound_resource, bound_entry, pipeline_layout_made, group_made, compute_made, render_made}
+use Rattle.wg_model.specs.Making.{bound_resource, bound_entry, given_layouts, pipeline_layout_made, group_made, compute_made, render_made}
 use Rattle.wg_model.proofs.Unmet.{all_met}
 use Rattle.wg_history.specs.Entries.{Setup, Event, CreateView, CreatePipelineLayout, CreateBindGroup, CreateComputePipeline, CreateRenderPipeline, GetBindGroupLayout, FinishBundle, effects_of, Past}
 use Rattle.wg_history.specs.Objects.{ObjRef, count, info_made, unknown, known_in, is_made_valid}
@@ -53,9 +53,10 @@ named_met setup past (object ∷ objects) n met e = elim (or_cases (object.0.num
 
 -- To what an object refers is among those that its event names.
 
-layouts_among : (layouts : List ObjRef) (n : ℕ) → is_among (map (λ (layout : ObjRef). layout.number) (map (λ (r : ObjRef). r) layouts)) n ≡ names_one (all_wanted wanted.GroupLayout layouts) n
+layouts_among : (layouts : List (Option ObjRef)) (n : ℕ) → is_among (map (λ (layout : ObjRef). layout.number) (given_layouts (λ r. r) layouts)) n ≡ names_one (some_wanted wanted.GroupLayout layouts) n
 layouts_among [] n = refl
-layouts_among (layout ∷ layouts) n = ap (λ b. layout.number == n || b) (layouts_among layouts n)
+layouts_among (None ∷ layouts) n = layouts_among layouts n
+layouts_among (Some layout ∷ layouts) n = ap (λ b. layout.number == n || b) (layouts_among layouts n)
 
 resource_same : (resource : ResourceOf ObjRef) → resource_number (bound_resource (λ r. r) unknown resource) ≡ (resource_named resource).0.number
 resource_same (Buffer buffer offset size) = refl
@@ -86,10 +87,10 @@ object_refers setup older (CreateView texture desc) n other made refers =
     let lt : texture.number < count older = own_below setup older _ texture met.0 in
     (omega (arith, lt, same), ap (is_dropped setup older) (sym same) ∙ not_true (is_dropped setup older texture.number) met.1.0)
 object_refers setup older (CreatePipelineLayout layouts) n other made refers =
-    let rules : List Rule = named_rules setup older (all_wanted wanted.GroupLayout layouts) in
+    let rules : List Rule = named_rules setup older (some_wanted wanted.GroupLayout layouts) in
     let more : List Rule = pipeline_layout_rules setup.limits (pipeline_layout_made (λ r. r) (known_in older) layouts).layouts_info in
     let met = all_met (rules ++ more) (and_parts (not (is_lost older)) (is_none (create_pipeline_layout_rule setup older layouts)) made).1 in
-    named_met setup older (all_wanted wanted.GroupLayout layouts) n (met_before rules more met) (sym (layouts_among layouts n) ∙ refers)
+    named_met setup older (some_wanted wanted.GroupLayout layouts) n (met_before rules more met) (sym (layouts_among layouts n) ∙ refers)
 object_refers setup older (CreateBindGroup layout entries) n other made refers =
     let rules : List Rule = named_rules setup older (group_named layout entries) in
     let more : List Rule = group_rules setup.limits (group_made (λ r. r) (known_in older) layout entries).layout_info.entries (group_made (λ r. r) (known_in older) layout entries).entries in

@@ -348,14 +348,14 @@ made_reaches : (setup : Setup) (older : Past) (event : Event) (bundle : BundleIn
     → is_among (in_bundle (numbers_in word) (Some bundle)) n ≡ true → Reached older (refers_of (Bundle bundle)) n
 unfolding finish_bundle_rule
 made_reaches setup older (FinishBundle encoder recording) bundle word n run bundles e made among =
-    let made_of : BundleInfo = bundle_of recording.device recording.targets recording.commands in
+    let made_of : BundleInfo = bundle_of recording.maker recording.targets recording.commands in
     let same : made_of ≡ bundle = cc in
     let rules = neither _ _ (and_parts (not (is_lost older)) (is_none (finish_bundle_rule setup older encoder recording)) made).1 in
-    let late = neither (Verdict recording.device recording.targets recording.commands) (first_unmet (kept_rules setup older encoder.number recording)) rules.1 in
+    let late = neither (Verdict recording.maker recording.targets recording.commands) (first_unmet (kept_rules setup older encoder.number recording)) rules.1 in
     let rest : AreMet (kept_rules setup older encoder.number recording) = all_met (kept_rules setup older encoder.number recording) late.1 in
-    let used = bundle_uses word n recording.device recording.targets recording.commands (ap (λ (b : BundleInfo). is_among (in_bundle (numbers_in word) (Some b)) n) same ∙ among) in
+    let used = bundle_uses word n recording.maker recording.targets recording.commands (ap (λ (b : BundleInfo). is_among (in_bundle (numbers_in word) (Some b)) n) same ∙ among) in
     subst (λ (b : BundleInfo). Reached older (refers_of (Bundle b)) n) same
-    (subst (λ (list : List ℕ). Reached older list n) (sym (bundle_numbers recording.device recording.targets recording.commands))
+    (subst (λ (list : List ℕ). Reached older list n) (sym (bundle_numbers recording.maker recording.targets recording.commands))
     (commands_reach setup older encoder.number recording.commands n run bundles (not_true _ rest.1.0) (word_uses word (λ r. r == n) recording.commands used)))
 made_reaches setup older _ bundle word n run bundles e made among = absurd (cc)
 
@@ -374,7 +374,7 @@ finish_reaches : (setup : Setup) (older : Past) (event : Event) (n : ℕ) → Is
 unfolding finish_rule
 finish_reaches setup older (Finish encoder recording) n run made used =
     let rules = neither _ _ (and_parts (not (is_lost older)) (is_none (finish_rule setup older encoder recording)) made).1 in
-    let late = neither (Verdict recording.device recording.targets recording.commands) (first_unmet (recording_rules setup older encoder.number recording)) rules.1 in
+    let late = neither (Verdict recording.maker recording.targets recording.commands) (first_unmet (recording_rules setup older encoder.number recording)) rules.1 in
     let rest : AreMet (recording_rules setup older encoder.number recording) = all_met (recording_rules setup older encoder.number recording) late.1 in
     commands_reach setup older encoder.number recording.commands n run (bundles_reach setup older n run) (not_true _ rest.1.1.0) used
 finish_reaches setup older _ n run made used = absurd (true≢false (sym used))

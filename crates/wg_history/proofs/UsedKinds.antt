@@ -171,10 +171,10 @@ finish_tells : (setup : Setup) (older : Past) (reached : Wanted → HandleValue 
 unfolding finish_rule
 finish_tells setup older reached kind (Finish encoder recording) n tells stand made used =
     let rules = neither _ _ (and_parts (not (is_lost older)) (is_none (finish_rule setup older encoder recording)) made).1 in
-    let late = neither (Verdict recording.device recording.targets recording.commands) (first_unmet (recording_rules setup older encoder.number recording)) rules.1 in
+    let late = neither (Verdict recording.maker recording.targets recording.commands) (first_unmet (recording_rules setup older encoder.number recording)) rules.1 in
     let rest : AreMet (recording_rules setup older encoder.number recording) = all_met (recording_rules setup older encoder.number recording) late.1 in
     recording_tells setup older reached kind encoder.number recording.commands n tells
-    (recording_fits recording.device recording.targets recording.commands stand (none_is (Verdict recording.device recording.targets recording.commands) late.0) (not_true _ rest.0))
+    (recording_fits recording.maker recording.targets recording.commands stand (none_is (Verdict recording.maker recording.targets recording.commands) late.0) (not_true _ rest.0))
     (not_true _ rest.1.1.0) used
 finish_tells setup older reached kind _ n tells stand made used = absurd (true≢false (sym used))
 
@@ -185,18 +185,18 @@ bundle_tells : (setup : Setup) (older : Past) (word : Word) (kind : Info → Boo
     → is_among (in_bundle (numbers_in word) (Some bundle)) n ≡ true → is_kind_at kind older n ≡ true
 unfolding finish_bundle_rule
 bundle_tells setup older word kind (FinishBundle encoder recording) bundle n tells e made among =
-    let same : bundle_of recording.device recording.targets recording.commands ≡ bundle = cc in
+    let same : bundle_of recording.maker recording.targets recording.commands ≡ bundle = cc in
     let rules = neither _ _ (and_parts (not (is_lost older)) (is_none (finish_bundle_rule setup older encoder recording)) made).1 in
-    let late = neither (Verdict recording.device recording.targets recording.commands) (first_unmet (kept_rules setup older encoder.number recording)) rules.1 in
+    let late = neither (Verdict recording.maker recording.targets recording.commands) (first_unmet (kept_rules setup older encoder.number recording)) rules.1 in
     let rest : AreMet (kept_rules setup older encoder.number recording) = all_met (kept_rules setup older encoder.number recording) late.1 in
     let known = ap (λ (b : BundleInfo). is_among (in_bundle (numbers_in word) (Some b)) n) same ∙ among in
-    by_targets recording.targets recording.commands (none_is (Verdict recording.device recording.targets recording.commands) late.0) (not_true _ rest.1.0) known
+    by_targets recording.targets recording.commands (none_is (Verdict recording.maker recording.targets recording.commands) late.0) (not_true _ rest.1.0) known
   where
-    by_targets : (targets : Option TargetInfo) (commands : List (On × Command)) → Verdict recording.device targets commands ≡ None → any_barred setup older encoder.number commands ≡ false
-        → is_among (in_bundle (numbers_in word) (Some (bundle_of recording.device targets commands))) n ≡ true → is_kind_at kind older n ≡ true
+    by_targets : (targets : Option TargetInfo) (commands : List (On × Command)) → Verdict recording.maker targets commands ≡ None → any_barred setup older encoder.number commands ≡ false
+        → is_among (in_bundle (numbers_in word) (Some (bundle_of recording.maker targets commands))) n ≡ true → is_kind_at kind older n ≡ true
     by_targets None commands none spared known = absurd (true≢false (sym known))
     by_targets (Some targets) commands none spared known =
-        recording_tells setup older (reached_by word) kind encoder.number commands n tells (bundle_fits recording.device targets (reverse commands) none) spared (bundle_uses word n recording.device (Some targets) commands known)
+        recording_tells setup older (reached_by word) kind encoder.number commands n tells (bundle_fits recording.maker targets (reverse commands) none) spared (bundle_uses word n recording.maker (Some targets) commands known)
 bundle_tells setup older word kind _ bundle n tells e made among = absurd (cc)
 
 -- what is told of objects where it is told of bundles

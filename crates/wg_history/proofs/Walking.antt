@@ -3,6 +3,7 @@
 use Rattle.std.proofs.Common.{◌≡◌, ℕ, ◌+◌, ◌<◌, List, [], ◌∷◌, ◌++◌, map, reverse, Bool, true, false, ◌&&◌, ◌||◌, ◌==◌, Option, Some, None, is_some, is_none, refl, ap, sym, ◌∙◌, arith, if◌then◌else◌, true≢false, inl, inr}
 use Rattle.std.specs.Option.{option_or}
 use Rattle.std.proofs.lemmas.Bool.{and_parts, eq-eqb, eqb-true, cases_lt}
+use Rattle.wg_types.specs.declared.limits.Maker.{Maker}
 use Rattle.wg_types.specs.Handles.{HandleValue}
 use Rattle.wg_types.specs.Kinds.{kind_of}
 use Rattle.wg_types.specs.Wanted.{admits, pipelines_on, within}
@@ -111,11 +112,11 @@ begun (kept ∷ older) = begun_next (open_pass older) (begins older) kept.0 kept
 
 -- Without a verdict a pass that was begun and has not ended is the open one.
 
-open_next : (device : ℕ) (opened : Option PassSoFar) (number depth : ℕ) (on : On) (command : Command) (ended : ℕ → Bool) → given device opened depth on command ≡ None
+open_next : (maker : Maker) (opened : Option PassSoFar) (number depth : ℕ) (on : On) (command : Command) (ended : ℕ → Bool) → given maker opened depth on command ≡ None
     → ((p : ℕ) → p < number → ended p ≡ false → is_open opened p ≡ true)
     → (p : ℕ) → p < (if begins_pass on command then number + 1 else number) → (ends opened on command p || ended p) ≡ false → is_open (open_after opened number on command) p ≡ true
-open_next device (Some pass) number depth Encoder command ended none before p lt e = absurd (cc)
-open_next device None number depth Encoder command ended none before p lt e = by_begin (is_begin command) lt
+open_next maker (Some pass) number depth Encoder command ended none before p lt e = absurd (cc)
+open_next maker None number depth Encoder command ended none before p lt e = by_begin (is_begin command) lt
   where
     by_begin : (b : Bool) → p < (if b then number + 1 else number) → is_open (if b then Some (record { number = number; begin = command; earlier = [] }) else None) p ≡ true
     by_begin true less = elim (cases_lt p number) [
@@ -123,8 +124,8 @@ open_next device None number depth Encoder command ended none before p lt e = by
       | inr above ↦ eq-eqb p number (omega (arith, less, above))
     ]
     by_begin false less = absurd (true≢false (sym (before p less e)))
-open_next device None number depth (Pass q) command ended none before p lt e = before p lt e
-open_next device (Some pass) number depth (Pass q) command ended none before p lt e = by_open (q == pass.number) refl (is_end command) e
+open_next maker None number depth (Pass q) command ended none before p lt e = before p lt e
+open_next maker (Some pass) number depth (Pass q) command ended none before p lt e = by_open (q == pass.number) refl (is_end command) e
   where
     own : ended p ≡ false → p ≡ pass.number
     own still = eqb-true p pass.number (before p lt still)
@@ -138,11 +139,11 @@ open_next device (Some pass) number depth (Pass q) command ended none before p l
     by_open true is false e = before p lt e
     by_open false is last e = before p lt e
 
-stands_open : (device : ℕ) (kept : Kept) → verdict device kept ≡ None → (p : ℕ) → p < begins kept → has_ended kept p ≡ false → is_open (open_pass kept) p ≡ true
-stands_open device [] none p lt e = absurd (omega (arith, lt))
-stands_open device (kept ∷ older) none p lt e =
-    let parts = both_none (verdict device older) (given device (open_pass older) (encoder_depth older) kept.0 kept.1) none in
-    open_next device (open_pass older) (begins older) (encoder_depth older) kept.0 kept.1 (has_ended older) parts.1 (stands_open device older parts.0) p lt e
+stands_open : (maker : Maker) (kept : Kept) → verdict maker kept ≡ None → (p : ℕ) → p < begins kept → has_ended kept p ≡ false → is_open (open_pass kept) p ≡ true
+stands_open maker [] none p lt e = absurd (omega (arith, lt))
+stands_open maker (kept ∷ older) none p lt e =
+    let parts = both_none (verdict maker older) (given maker (open_pass older) (encoder_depth older) kept.0 kept.1) none in
+    open_next maker (open_pass older) (begins older) (encoder_depth older) kept.0 kept.1 (has_ended older) parts.1 (stands_open maker older parts.0) p lt e
 
 -- Each command meets the rules on what it names.
 
@@ -150,71 +151,71 @@ abbrev TakesOn : Option PassSoFar → On → Type 0
 TakesOn opened Encoder = Unit {0}
 TakesOn opened (Pass pass) = is_open opened pass ≡ true
 
-takes : (device : ℕ) (older : Kept) (on : On) → verdict device older ≡ None → StandsOn on older → TakesOn (open_pass older) on
-takes device older Encoder none stands = tt
-takes device older (Pass pass) none stands = stands_open device older none pass stands.0 stands.1
+takes : (maker : Maker) (older : Kept) (on : On) → verdict maker older ≡ None → StandsOn on older → TakesOn (open_pass older) on
+takes maker older Encoder none stands = tt
+takes maker older (Pass pass) none stands = stands_open maker older none pass stands.0 stands.1
 
-rule_fits : (device : ℕ) (begin : RenderBegin) (by : Bracket) (earlier : List Command) (command : Command) → begins_pass_by by ≡ true → rule_by device begin by earlier command ≡ None → HandlesFit (named command)
-rule_fits device begin brackets.BeginComputePass earlier command b e =
-    placed_fit device kind.ComputePass compute_pipelines (named command) (met_none (common_rules device (named_on kind.ComputePass command)) (both_none (first_unmet (common_rules device (named_on kind.ComputePass command))) (first_unmet (compute_rules (settings earlier) command)) e).0)
-rule_fits device begin brackets.BeginRenderPass earlier command b e =
-    placed_fit device kind.RenderPass render_pipelines (named command) (met_none (common_rules device (named_on kind.RenderPass command)) (both_none (first_unmet (common_rules device (named_on kind.RenderPass command))) (first_unmet (render_rules (render_set begin earlier) command)) e).0)
-rule_fits device begin brackets.EndPass earlier command b e = absurd (true≢false (sym b))
-rule_fits device begin brackets.PushGroup earlier command b e = absurd (true≢false (sym b))
-rule_fits device begin brackets.PopGroup earlier command b e = absurd (true≢false (sym b))
-rule_fits device begin brackets.Neither earlier command b e = absurd (true≢false (sym b))
+rule_fits : (maker : Maker) (begin : RenderBegin) (by : Bracket) (earlier : List Command) (command : Command) → begins_pass_by by ≡ true → rule_by maker begin by earlier command ≡ None → HandlesFit (named command)
+rule_fits maker begin brackets.BeginComputePass earlier command b e =
+    placed_fit maker.device kind.ComputePass compute_pipelines (named command) (met_none (common_rules maker.device (named_on kind.ComputePass command)) (both_none (first_unmet (common_rules maker.device (named_on kind.ComputePass command))) (first_unmet (compute_rules (settings earlier) command)) e).0)
+rule_fits maker begin brackets.BeginRenderPass earlier command b e =
+    placed_fit maker.device kind.RenderPass render_pipelines (named command) (met_none (common_rules maker.device (named_on kind.RenderPass command)) (both_none (first_unmet (common_rules maker.device (named_on kind.RenderPass command))) (first_unmet (render_rules maker.limits (render_set begin earlier) command)) e).0)
+rule_fits maker begin brackets.EndPass earlier command b e = absurd (true≢false (sym b))
+rule_fits maker begin brackets.PushGroup earlier command b e = absurd (true≢false (sym b))
+rule_fits maker begin brackets.PopGroup earlier command b e = absurd (true≢false (sym b))
+rule_fits maker begin brackets.Neither earlier command b e = absurd (true≢false (sym b))
 
-fits_next : (device : ℕ) (opened : Option PassSoFar) (number depth : ℕ) (on : On) (command : Command) → IsBegun opened → TakesOn opened on → given device opened depth on command ≡ None
-    → open_rule device (open_after opened number on command) ≡ None → HandlesFit (named command) × (open_rule device opened ≡ None)
-fits_next device (Some pass) number depth Encoder command was on_open none rule = absurd (cc)
-fits_next device None number depth Encoder command was on_open none rule = by_begin (is_begin command) none rule
+fits_next : (maker : Maker) (opened : Option PassSoFar) (number depth : ℕ) (on : On) (command : Command) → IsBegun opened → TakesOn opened on → given maker opened depth on command ≡ None
+    → open_rule maker (open_after opened number on command) ≡ None → HandlesFit (named command) × (open_rule maker opened ≡ None)
+fits_next maker (Some pass) number depth Encoder command was on_open none rule = absurd (cc)
+fits_next maker None number depth Encoder command was on_open none rule = by_begin (is_begin command) none rule
   where
-    by_begin : (b : Bool) → (if b then None else first_unmet (command_rules device depth command)) ≡ None → open_rule device (if b then Some (record { number = number; begin = command; earlier = [] }) else None) ≡ None
-        → HandlesFit (named command) × (open_rule device None ≡ None)
-    by_begin true gives rule = (named_fit device (named command) (met_none (common_rules device (named command)) (both_none (first_unmet (common_rules device (named command))) (first_unmet (begun_rules command)) rule).0), refl)
-    by_begin false gives rule = (named_fit device (named command) (met_before (common_rules device (named command)) (own_rules command ++ debug_rules depth command) (met_none (command_rules device depth command) gives)), refl)
-fits_next device None number depth (Pass q) command was on_open none rule = absurd (true≢false (sym on_open))
-fits_next device (Some pass) number depth (Pass q) command was on_open none rule = by_open (q == pass.number) on_open none rule
+    by_begin : (b : Bool) → (if b then None else first_unmet (command_rules maker.device depth command)) ≡ None → open_rule maker (if b then Some (record { number = number; begin = command; earlier = [] }) else None) ≡ None
+        → HandlesFit (named command) × (open_rule maker None ≡ None)
+    by_begin true gives rule = (named_fit maker.device (named command) (met_none (common_rules maker.device (named command)) (both_none (first_unmet (common_rules maker.device (named command))) (first_unmet (begun_rules command)) rule).0), refl)
+    by_begin false gives rule = (named_fit maker.device (named command) (met_before (common_rules maker.device (named command)) (own_rules command ++ debug_rules depth command) (met_none (command_rules maker.device depth command) gives)), refl)
+fits_next maker None number depth (Pass q) command was on_open none rule = absurd (true≢false (sym on_open))
+fits_next maker (Some pass) number depth (Pass q) command was on_open none rule = by_open (q == pass.number) on_open none rule
   where
-    taken : (b : Bool) → (if b then pass_rule device pass.begin (command ∷ pass.earlier) else None) ≡ None → open_rule device (if b then None else Some (record pass { earlier = command ∷ pass.earlier })) ≡ None
-        → pass_rule device pass.begin (command ∷ pass.earlier) ≡ None
+    taken : (b : Bool) → (if b then pass_rule maker pass.begin (command ∷ pass.earlier) else None) ≡ None → open_rule maker (if b then None else Some (record pass { earlier = command ∷ pass.earlier })) ≡ None
+        → pass_rule maker pass.begin (command ∷ pass.earlier) ≡ None
     taken true gives rule = gives
     taken false gives rule = rule
 
-    parted : pass_rule device pass.begin (command ∷ pass.earlier) ≡ None → HandlesFit (named command) × (pass_rule device pass.begin pass.earlier ≡ None)
+    parted : pass_rule maker pass.begin (command ∷ pass.earlier) ≡ None → HandlesFit (named command) × (pass_rule maker pass.begin pass.earlier ≡ None)
     parted e =
-        let parts = both_none (pass_rule device pass.begin pass.earlier) (rule_in device pass.begin pass.earlier command) e in
-        (rule_fits device (begin_of pass.begin) (bracket pass.begin) pass.earlier command was parts.1, parts.0)
+        let parts = both_none (pass_rule maker pass.begin pass.earlier) (rule_in maker pass.begin pass.earlier command) e in
+        (rule_fits maker (begin_of pass.begin) (bracket pass.begin) pass.earlier command was parts.1, parts.0)
 
-    by_open : (b : Bool) → b ≡ true → (if b then (if is_end command then pass_rule device pass.begin (command ∷ pass.earlier) else None) else None) ≡ None
-        → open_rule device (if b then pass_after (Some pass) command else Some pass) ≡ None → HandlesFit (named command) × (open_rule device (Some pass) ≡ None)
+    by_open : (b : Bool) → b ≡ true → (if b then (if is_end command then pass_rule maker pass.begin (command ∷ pass.earlier) else None) else None) ≡ None
+        → open_rule maker (if b then pass_after (Some pass) command else Some pass) ≡ None → HandlesFit (named command) × (open_rule maker (Some pass) ≡ None)
     by_open true is gives rule = parted (taken (is_end command) gives rule)
     by_open false is gives rule = absurd (true≢false (sym is))
 
-each_fits : (device : ℕ) (kept : Kept) → AllStand kept → verdict device kept ≡ None → open_rule device (open_pass kept) ≡ None → EachFits kept
-each_fits device [] stand none rule = tt
-each_fits device (kept ∷ older) stand none rule =
-    let parts = both_none (verdict device older) (given device (open_pass older) (encoder_depth older) kept.0 kept.1) none in
-    let next = fits_next device (open_pass older) (begins older) (encoder_depth older) kept.0 kept.1 (begun older) (takes device older kept.0 parts.0 stand.0) parts.1 rule in
-    (next.0, each_fits device older stand.1 parts.0 next.1)
+each_fits : (maker : Maker) (kept : Kept) → AllStand kept → verdict maker kept ≡ None → open_rule maker (open_pass kept) ≡ None → EachFits kept
+each_fits maker [] stand none rule = tt
+each_fits maker (kept ∷ older) stand none rule =
+    let parts = both_none (verdict maker older) (given maker (open_pass older) (encoder_depth older) kept.0 kept.1) none in
+    let next = fits_next maker (open_pass older) (begins older) (encoder_depth older) kept.0 kept.1 (begun older) (takes maker older kept.0 parts.0 stand.0) parts.1 rule in
+    (next.0, each_fits maker older stand.1 parts.0 next.1)
 
 -- Each command of a bundle encoder meets these rules as well.
-pub bundle_fits : (device : ℕ) (targets : TargetInfo) (kept : Kept) → bundle_verdict device targets (map (λ (kept : On × Command). kept.1) kept) ≡ None → EachFits kept
-bundle_fits device targets [] none = tt
-bundle_fits device targets (kept ∷ older) none =
+pub bundle_fits : (maker : Maker) (targets : TargetInfo) (kept : Kept) → bundle_verdict maker targets (map (λ (kept : On × Command). kept.1) kept) ≡ None → EachFits kept
+bundle_fits maker targets [] none = tt
+bundle_fits maker targets (kept ∷ older) none =
     let earlier : List Command = map (λ (kept : On × Command). kept.1) older in
-    let parts = both_none (bundle_verdict device targets earlier) (bundle_rule device targets earlier kept.1) none in
+    let parts = both_none (bundle_verdict maker targets earlier) (bundle_rule maker targets earlier kept.1) none in
     let objects : List (HandleValue × Wanted) = named_on kind.BundleEncoder kept.1 in (
-      placed_fit device kind.BundleEncoder bundle_pipelines (named kept.1)
-          (met_none (common_rules device objects) (both_none (first_unmet (common_rules device objects)) (first_unmet (render_rules (bundle_set targets earlier) kept.1)) parts.1).0),
-      bundle_fits device targets older parts.0,
+      placed_fit maker.device kind.BundleEncoder bundle_pipelines (named kept.1)
+          (met_none (common_rules maker.device objects) (both_none (first_unmet (common_rules maker.device objects)) (first_unmet (render_rules maker.limits (bundle_set targets earlier) kept.1)) parts.1).0),
+      bundle_fits maker targets older parts.0,
     )
 
-closed_rule : (device : ℕ) (opened : Option PassSoFar) → is_some opened ≡ false → open_rule device opened ≡ None
-closed_rule device None e = refl
-closed_rule device (Some pass) e = absurd (true≢false e)
+closed_rule : (maker : Maker) (opened : Option PassSoFar) → is_some opened ≡ false → open_rule maker opened ≡ None
+closed_rule maker None e = refl
+closed_rule maker (Some pass) e = absurd (true≢false e)
 
 -- So does each of a recording of which no rule is unmet and no pass is open.
-pub recording_fits : (device : ℕ) (targets : Option TargetInfo) (commands : List (On × Command)) → AllStand (reverse commands) → Verdict device targets commands ≡ None → has_open_pass targets commands ≡ false → EachFits (reverse commands)
-recording_fits device None commands stand none closed = each_fits device (reverse commands) stand none (closed_rule device (open_pass (reverse commands)) closed)
-recording_fits device (Some targets) commands stand none closed = bundle_fits device targets (reverse commands) none
+pub recording_fits : (maker : Maker) (targets : Option TargetInfo) (commands : List (On × Command)) → AllStand (reverse commands) → Verdict maker targets commands ≡ None → has_open_pass targets commands ≡ false → EachFits (reverse commands)
+recording_fits maker None commands stand none closed = each_fits maker (reverse commands) stand none (closed_rule maker (open_pass (reverse commands)) closed)
+recording_fits maker (Some targets) commands stand none closed = bundle_fits maker targets (reverse commands) none

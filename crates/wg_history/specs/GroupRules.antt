@@ -4,7 +4,7 @@ use Rattle.std.specs.Prelude.{ℕ, not, List, [], ◌∷◌, ◌++◌, Option}
 use Rattle.wg_rules.specs.declared.TheConstants.{OBJECT_IS_OF_DEVICE, OBJECT_IS_NOT_DROPPED, OBJECT_IS_VALID}
 use Rattle.wg_types.specs.Wanted.{admits}
 use Rattle.wg_types.specs.Kinds.{kind_of}
-use Rattle.wg_types.specs.Refs.{all_wanted, maybe_wanted}
+use Rattle.wg_types.specs.Refs.{some_wanted, maybe_wanted}
 use Rattle.wg_types.specs.Bindings.{entries_named}
 use Rattle.wg_types.specs.declared.wanted.Wanted.{Wanted}
 use Rattle.wg_types.specs.declared.wanted.Wanted.TheVariants as wanted
@@ -37,10 +37,11 @@ named_rules setup past (object ∷ objects) =
 unfoldable pub create_bind_group_layout_rule : Setup → List LayoutEntry → Option ℕ
 create_bind_group_layout_rule setup entries = first_unmet (group_layout_rules setup.limits entries)
 
--- createPipelineLayout: the layouts that it names, then the rules by what is known of them
-unfoldable pub create_pipeline_layout_rule : Setup → Past → List ObjRef → Option ℕ
+-- createPipelineLayout: the layouts that it names, of which a null is none, then the rules by what is known of them, to which a null
+-- counts as a layout without an entry
+unfoldable pub create_pipeline_layout_rule : Setup → Past → List (Option ObjRef) → Option ℕ
 create_pipeline_layout_rule setup past layouts =
-    first_unmet (named_rules setup past (all_wanted wanted.GroupLayout layouts)
+    first_unmet (named_rules setup past (some_wanted wanted.GroupLayout layouts)
     ++ pipeline_layout_rules setup.limits (pipeline_layout_made (λ r. r) (known_in past) layouts).layouts_info)
 
 -- createBindGroup: the layout, then what the entries bind, then the rules by what is known of these

@@ -24,8 +24,9 @@ abbrev pub number_of : Option ObjRef → List ℕ
 number_of object = option_to_list (option_map (λ (r : ObjRef). r.number) object)
 
 -- The objects to which one of this info refers, if it is valid: a view to its texture; a bind group layout to the pipeline that it
--- was got of, if it was got of one; a pipeline layout to the layouts of its groups; a bind group to its layout and to what it
--- binds; a pipeline to the layout that it was made with, if it was made with one; a bundle to what its commands name.
+-- was got of, if it was got of one; a pipeline layout to the layouts of its groups, but for those that are null; a bind group to its
+-- layout and to what it binds; a pipeline to the layout that it was made with, if it was made with one; a bundle to what its commands
+-- name.
 abbrev pub refers_of : Info → List ℕ
 refers_of (View info) = info.texture.number ∷ []
 refers_of (Buffer info) = []

@@ -242,7 +242,7 @@ abbrev pub kept_rules : Setup → Past → ℕ → RecordingValue → List Rule
 kept_rules setup past encoder recording =
     (EVERY_DEBUG_GROUP_OF_ENCODER_IS_CLOSED, open_depth recording.targets recording.commands == 0)
     ∷ ((OBJECT_IS_NOT_DROPPED, not (any_barred setup past encoder recording.commands))
-    ∷ ((USAGE_SCOPES_ARE_COMPATIBLE, is_none (first_clash (ScopesOf recording.device recording.targets recording.commands)))
+    ∷ ((USAGE_SCOPES_ARE_COMPATIBLE, is_none (first_clash (ScopesOf recording.maker recording.targets recording.commands)))
     ∷ []))
 
 -- the rules of the recording of a finish: 182 no pass is open, and then those of any recording that is ended
@@ -255,7 +255,7 @@ recording_rules setup past encoder recording =
 unfoldable pub finish_rule : Setup → Past → ObjRef → RecordingValue → Option ℕ
 finish_rule setup past encoder recording =
     option_or (first_unmet (encoder_rules setup past is_encoder encoder))
-    (option_or (Verdict recording.device recording.targets recording.commands)
+    (option_or (Verdict recording.maker recording.targets recording.commands)
     (first_unmet (recording_rules setup past encoder.number recording)))
 
 -- the first unmet rule of a finishBundle (WebGPU, "finish" of "GPURenderBundleEncoder"): those of the bundle encoder, then the
@@ -263,7 +263,7 @@ finish_rule setup past encoder recording =
 unfoldable pub finish_bundle_rule : Setup → Past → ObjRef → RecordingValue → Option ℕ
 finish_bundle_rule setup past encoder recording =
     option_or (first_unmet (encoder_rules setup past is_bundle_encoder encoder))
-    (option_or (Verdict recording.device recording.targets recording.commands)
+    (option_or (Verdict recording.maker recording.targets recording.commands)
     (first_unmet (kept_rules setup past encoder.number recording)))
 
 -- whether an event that comes after a past consumes the command buffer n: a submit that lists it does, whether or not it is

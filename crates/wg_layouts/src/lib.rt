@@ -19,6 +19,7 @@ pub use bound::check_bound;
 pub use checks::{check_get_layout, check_group_layout, check_pipeline_layout, check_together};
 pub use equivalence::equivalent;
 pub use setting::{
-    check_set, group_in, is_automatic, known_group, known_layouts, layouts_in, owner_of,
+    check_set, check_unset, group_in, is_automatic, known_group, known_layouts, layouts_in,
+    owner_of,
 };
 pub use touching::bound_touches;

@@ -4,7 +4,7 @@ ghost use Rattle.std.specs.Prelude.{◌≡◌, ◌%◌, ◌==◌, Some, option_c
 ghost use Rattle.std.specs.List.{list_all};
 ghost use Rattle.wg_model.specs.Rules.{first_unmet};
 ghost use Rattle.wg_model.specs.Automatic.{known_layouts};
-ghost use Rattle.wg_model.specs.Bound.{group_in, known_group, layouts_in, is_automatic, owner_of, dynamics, dynamics_before, moved_by, entry_places, moved_range_fits, place_fits, offset_rules, set_rules};
+ghost use Rattle.wg_model.specs.Bound.{group_in, known_group, layouts_in, is_automatic, owner_of, dynamics, dynamics_before, moved_by, entry_places, moved_range_fits, place_fits, offset_rules, set_rules, unset_rules};
 ghost use Rattle.wg_layouts.specs.Places.{entries_places};
 
 use crate::bindings::Bindings;
@@ -176,6 +176,20 @@ fn check_offsets(group: &GroupInfo, offsets: &[u32]) -> Option<u16>
     }
     if !entries_fit(&Bindings::new(layout), offsets, group.entries.as_slice()) {
         return Some(DYNAMIC_RANGES_FIT_BUFFERS);
+    }
+    None
+}
+
+/// The number of the first unmet rule of setBindGroup with null (WebGPU, "setBindGroup"); none where that
+/// may be set.
+pub fn check_unset(index: u32, offsets: &[u32]) -> Option<u16>
+    ensures { result ≡ first_unmet (unset_rules index offsets.now) }
+{
+    if index >= 4 {
+        return Some(GROUP_INDEX_IS_WITHIN_LIMIT);
+    }
+    if !offsets.is_empty() {
+        return Some(OFFSET_COUNT_FITS_LAYOUT);
     }
     None
 }

@@ -1,5 +1,5 @@
 -- The steps of recorded commands use only the resources that the commands name.
-use Rattle.std.proofs.Common.{◌≡◌, ℕ, ◌+◌, zero, suc, Bool, true, false, ◌||◌, ◌&&◌, ◌==◌, nat_lt, min, List, [], ◌∷◌, ◌++◌, map, reverse, Option, Some, None, is_none, option_to_list, refl, ap, sym, ◌∙◌, subst, slice_index_or, if◌then◌else◌}
+use Rattle.std.proofs.Common.{◌≡◌, ℕ, ◌+◌, zero, suc, Bool, true, false, ◌||◌, ◌&&◌, ◌==◌, nat_lt, min, List, [], ◌∷◌, ◌++◌, map, reverse, Option, Some, None, is_none, option_to_list, option_map, refl, ap, sym, ◌∙◌, subst, slice_index_or, if◌then◌else◌}
 use Rattle.std.specs.List.{flat_map}
 use Rattle.std.specs.Option.{option_map_or}
 use Rattle.std.specs.List.{list_any}
@@ -24,7 +24,7 @@ use Rattle.wg_model.specs.Walk.{Kept, PassSoFar, open_pass, open_after, pass_aft
 use Rattle.wg_model.specs.Commands.{size_or_rest}
 use Rattle.wg_model.specs.Touches.{Touch, Doing, placed, touching, step_of, target_kind, copied_to, copied_from, range_touches, unless, encoder_does}
 use Rattle.wg_model.specs.Bound.{Place, known_group, entry_places, places_in, place_of, kind_touch, resource_cells, place_touches, set_places, index_places, has_entries, layouts_places, bound_touches}
-use Rattle.wg_model.specs.Settings.{settings, group_set, groups_set, layouts_set, indirect_touch}
+use Rattle.wg_model.specs.Settings.{settings, bound_with, group_set, groups_set, layouts_set, indirect_touch}
 use Rattle.wg_model.specs.Compute.{dispatch_touches, compute_does}
 use Rattle.wg_model.specs.Attachments.{RenderBegin, ColorTarget, DepthTarget, attached_view, handle_cells, sliced, color_cells, attach_kind, attached, attachment_usage, resolve_touches, color_touches, depth_touch, depth_touches, targets_touches}
 use Rattle.wg_model.specs.Render.{RenderSet, render_set, touches_over, command_touches, bound_group_touches, render_does, render_does_by}
@@ -220,8 +220,9 @@ SparesCommand n command = list_any (λ r. r == n) (resources command) ≡ false
 abbrev AreSparing : ℕ → List Command → Type 0
 AreSparing n earlier = EachRow (SparesCommand n) earlier
 
-set_bound : (n index at : ℕ) (group : HandleValue) (offsets : List ℕ) (rest : Option BoundGroup) → SparesCommand n (SetBindGroup index group offsets) → SparesBound n rest → (b : Bool) → SparesBound n (if b then Some (record { group = group; offsets = offsets }) else rest)
-set_bound n index at group offsets rest e h true =
+set_bound : (n index at : ℕ) (group : Option HandleValue) (offsets : List ℕ) (rest : Option BoundGroup) → SparesCommand n (SetBindGroup index group offsets) → SparesBound n rest → (b : Bool) → SparesBound n (if b then option_map (bound_with offsets) group else rest)
+set_bound n index at None offsets rest e h true = tt
+set_bound n index at (Some group) offsets rest e h true =
     let both = both_none n (in_group bound_buffer (known_group group) ++ []) ((in_group bound_texture (known_group group) ++ []) ++ []) e in
     let textures = both_none n (in_group bound_texture (known_group group) ++ []) [] both.1 in
     info_away n (known_group group) offsets (both_none n (in_group bound_buffer (known_group group)) [] both.0).0 (both_none n (in_group bound_texture (known_group group)) [] textures.0).0
@@ -400,9 +401,10 @@ executed_away n bundles e =
 -- What commands of a render pass touch.
 command_away : (n : ℕ) (queries : Option (ℕ × ℕ)) (command : Command) → SparesSet n queries → SparesCommand n command → AreAway n (command_touches queries command)
 command_away n queries (SetBindGroup index group offsets) q e =
-    joined_away n (bound_group_touches (Some (index, record { group = group; offsets = offsets }))) []
-    (places_away n (set_places (Some (record { group = group; offsets = offsets }))) (set_bound n index index group offsets None e tt true)) tt
-command_away n queries (SetVertexBuffer slot buffer offset size) q e = (or_first (buffer.reference.number == n) false e, tt)
+    joined_away n (bound_group_touches (Some (index, option_map (bound_with offsets) group))) []
+    (places_away n (set_places (option_map (bound_with offsets) group)) (set_bound n index index group offsets None e tt true)) tt
+command_away n queries (SetVertexBuffer slot None offset size) q e = tt
+command_away n queries (SetVertexBuffer slot (Some buffer) offset size) q e = (or_first (buffer.reference.number == n) false e, tt)
 command_away n queries (SetIndexBuffer buffer format offset size) q e = (or_first (buffer.reference.number == n) false e, tt)
 command_away n queries (DrawIndirect buffer offset) q e = (or_first (buffer.reference.number == n) false e, tt)
 command_away n queries (DrawIndexedIndirect buffer offset) q e = (or_first (buffer.reference.number == n) false e, tt)
@@ -497,8 +499,8 @@ any_reversed test [] = refl
 any_reversed test (x ∷ xs) = ap (list_any test) (reverse-append (x ∷ []) xs) ∙ (list_any-append test (reverse xs) (x ∷ []) ∙ (ap (λ b. b || (test x || false)) (any_reversed test xs) ∙ or_swap (test x) (list_any test xs)))
 
 pub recorded_spare : RecordedSpare
-recorded_spare place device (Some targets) commands n e = unused_none n
-recorded_spare place device None commands n e = by_rules (is_none (verdict device (reverse commands)) && is_none (open_pass (reverse commands)))
+recorded_spare place maker (Some targets) commands n e = unused_none n
+recorded_spare place maker None commands n e = by_rules (is_none (verdict maker (reverse commands)) && is_none (open_pass (reverse commands)))
   where
     by_rules : (b : Bool) → Unused n (map (placed place) (if b then deeds (reverse commands) else []))
     by_rules true = subst (λ steps. Unused n steps) (sym (placed_deeds place (doings (reverse commands)))) (steps_unused place n (doings (reverse commands)) (doings_away n (reverse commands) (any_reversed (λ kept. list_any (λ r. r == n) (resources kept.1)) commands ∙ e)))

@@ -1,5 +1,5 @@
 -- The steps of queue writes and of recorded commands are as the table of uses has them.
-use Rattle.std.proofs.Common.{◌≡◌, ℕ, ◌*◌, zero, suc, Bool, true, false, ◌==◌, ◌&&◌, List, [], ◌∷◌, ◌++◌, map, Option, Some, None, is_none, option_to_list, refl, ap, sym, ◌∙◌, subst, slice_get, reverse, if◌then◌else◌}
+use Rattle.std.proofs.Common.{◌≡◌, ℕ, ◌*◌, zero, suc, Bool, true, false, ◌==◌, ◌&&◌, List, [], ◌∷◌, ◌++◌, map, Option, Some, None, is_none, option_to_list, option_map, refl, ap, sym, ◌∙◌, subst, slice_get, reverse, if◌then◌else◌}
 use Rattle.std.specs.List.{flat_map}
 use Rattle.wg_types.specs.declared.writes.QueueWrite.TheVariants.{Buffer as BufferWrite, Texture as TextureWrite}
 use Rattle.wg_trace.specs.declared.steps.StepName.TheVariants as name
@@ -34,7 +34,7 @@ use Rattle.wg_rows.specs.Rows.{EachRow}
 use Rattle.wg_orders.specs.Steps.{is_clear_name}
 use Rattle.wg_model.specs.Bound.{Place, kind_touch, resource_cells, place_touches, layouts_places, bound_touches}
 use Rattle.wg_model.specs.Bound.{set_places}
-use Rattle.wg_model.specs.Settings.{Settings, settings, layouts_set, indirect_touch}
+use Rattle.wg_model.specs.Settings.{Settings, settings, bound_with, layouts_set, indirect_touch}
 use Rattle.wg_model.specs.Compute.{compute_does, dispatch_touches}
 use Rattle.wg_model.specs.Attachments.{RenderBegin, ColorTarget, DepthTarget, handle_cells, color_cells, attach_kind, attached, attachment_usage, resolve_touches, color_touches, aspect_how, depth_how, cells_aspect, depth_touch, depth_touches, targets_touches}
 use Rattle.wg_model.specs.Render.{RenderSet, render_set, touches_over, command_touches, bound_group_touches, render_does, render_does_by}
@@ -241,8 +241,9 @@ query_own None index = tt
 query_own (Some set) index = (λ e. refl, tt)
 
 command_own : (queries : Option (ℕ × ℕ)) (command : Command) → AreProper (command_touches queries command)
-command_own queries (SetBindGroup index group offsets) = joined_proper (bound_group_touches (Some (index, record { group = group; offsets = offsets }))) [] (places_own (set_places (Some (record { group = group; offsets = offsets })))) tt
-command_own queries (SetVertexBuffer slot buffer offset size) = (λ e. absurd (cc), tt)
+command_own queries (SetBindGroup index group offsets) = joined_proper (bound_group_touches (Some (index, option_map (bound_with offsets) group))) [] (places_own (set_places (option_map (bound_with offsets) group))) tt
+command_own queries (SetVertexBuffer slot None offset size) = tt
+command_own queries (SetVertexBuffer slot (Some buffer) offset size) = (λ e. absurd (cc), tt)
 command_own queries (SetIndexBuffer buffer format offset size) = (λ e. absurd (cc), tt)
 command_own queries (DrawIndirect buffer offset) = (λ e. absurd (cc), tt)
 command_own queries (DrawIndexedIndirect buffer offset) = (λ e. absurd (cc), tt)
@@ -316,8 +317,8 @@ placed_deeds place [] = refl
 placed_deeds place (doing ∷ done) = ap (λ steps. step_of place doing ∷ steps) (placed_deeds place done)
 
 pub recorded_are_declared : RecordedAreDeclared
-recorded_are_declared place device (Some targets) commands k s e = absurd (no_step s k e)
-recorded_are_declared place device None commands k s e = by_rules (is_none (verdict device (reverse commands)) && is_none (open_pass (reverse commands))) e
+recorded_are_declared place maker (Some targets) commands k s e = absurd (no_step s k e)
+recorded_are_declared place maker None commands k s e = by_rules (is_none (verdict maker (reverse commands)) && is_none (open_pass (reverse commands))) e
   where
     by_rules : (b : Bool) → slice_get (map (placed place) (if b then deeds (reverse commands) else [])) k ≡ Some s → IsOwnStep s
     by_rules true h = steps_own place (doings (reverse commands)) (doings_own (reverse commands)) k s (ap (λ steps. slice_get steps k) (sym (placed_deeds place (doings (reverse commands)))) ∙ h)

@@ -240,7 +240,7 @@ begin_rules begin =
 
 -- the begin of a pass with no attachments
 abbrev pub no_begin : RenderBegin
-no_begin = record { colors = []; depth = None; queries = None }
+no_begin = record { colors = []; depth = None; queries = None; max_draws = None }
 
 -- the attachments with which a command begins a render pass, or none where it begins none
 abbrev pub begin_of : Command → RenderBegin
@@ -254,6 +254,11 @@ begun_rules command = option_map_or begin_rules (render_begun command) []
 abbrev pub samples_of : List ViewInfo → ℕ
 samples_of [] = 1
 samples_of (view ∷ views) = view.texture_info.samples
+
+-- the width and the height of what is attached to a pass: those of the first view, which all of them have
+abbrev pub extent_of : List ViewInfo → ℕ × ℕ
+extent_of [] = (0, 0)
+extent_of (view ∷ views) = (view_width view, view_height view)
 
 -- to what a pass draws: the formats and samples of its attachments, and whether depth and stencil are only read
 abbrev pub targets_of : RenderBegin → TargetInfo

@@ -148,6 +148,10 @@ offset_rules (Some group) offsets =
     ∷ ((DYNAMIC_RANGES_FIT_BUFFERS, list_all place_fits (places_in group offsets))
     ∷ []))
 
+-- setBindGroup of null, which unsets what is set at the index: 325 the index is one that a device has; 326 there is no offset
+abbrev pub unset_rules : ℕ → List ℕ → List Rule
+unset_rules index offsets = (GROUP_INDEX_IS_WITHIN_LIMIT, nat_lt index most_groups) ∷ ((OFFSET_COUNT_FITS_LAYOUT, length offsets == 0) ∷ [])
+
 -- setBindGroup (WebGPU, "setBindGroup"): 325 the index is one that a device has; 326 there are as many offsets as dynamic
 -- bindings; 327 each is a multiple of `offset_alignment`; 328 each bound range, moved by its offset, fits its buffer.
 unfoldable pub set_rules : ℕ → Option GroupInfo → List ℕ → List Rule

@@ -17,7 +17,7 @@ pub use Rattle.wg_types.specs.Commands.{Command, named}
 use Rattle.wg_types.specs.Commands.{bracket}
 use Rattle.wg_types.specs.declared.commands.Bracket.{Bracket}
 use Rattle.wg_types.specs.declared.commands.Bracket.TheVariants as brackets
-use Rattle.wg_types.specs.declared.commands.CommandOf.TheVariants.{BeginComputePass, BeginRenderPass, CopyBufferToBuffer, CopyBufferToTexture, CopyTextureToBuffer, CopyTextureToTexture, ClearBuffer, ResolveQuerySet, PushDebugGroup, PopDebugGroup, End, SetPipeline, SetBindGroup, Dispatch, DispatchIndirect, SetVertexBuffer, SetIndexBuffer, Draw, DrawIndexed, DrawIndirect, DrawIndexedIndirect, BeginOcclusionQuery, EndOcclusionQuery, ExecuteBundles}
+use Rattle.wg_types.specs.declared.commands.CommandOf.TheVariants.{BeginComputePass, BeginRenderPass, CopyBufferToBuffer, CopyBufferToTexture, CopyTextureToBuffer, CopyTextureToTexture, ClearBuffer, ResolveQuerySet, PushDebugGroup, PopDebugGroup, InsertDebugMarker, End, SetPipeline, SetBindGroup, Dispatch, DispatchIndirect, SetVertexBuffer, SetIndexBuffer, Draw, DrawIndexed, DrawIndirect, DrawIndexedIndirect, BeginOcclusionQuery, EndOcclusionQuery, ExecuteBundles, SetViewport, SetScissorRect, SetBlendConstant, SetStencilReference}
 use Rattle.wg_model.specs.Rules.{Rule}
 use Rattle.wg_model.specs.Equality.{same_reference}
 use Rattle.wg_model.specs.Buffers.{copy_src, copy_dst, query_resolve, has_usage}
@@ -146,6 +146,7 @@ own_rules (ClearBuffer buffer offset size) = clear_buffer_rules buffer offset (s
 own_rules (ResolveQuerySet queries first count buffer offset) = resolve_set_rules queries first count buffer offset
 own_rules PushDebugGroup = []
 own_rules PopDebugGroup = []
+own_rules InsertDebugMarker = []
 own_rules End = []
 own_rules (SetPipeline pipeline) = []
 own_rules (SetBindGroup index group offsets) = []
@@ -160,6 +161,10 @@ own_rules (DrawIndexedIndirect buffer offset) = []
 own_rules (BeginOcclusionQuery index) = []
 own_rules EndOcclusionQuery = []
 own_rules (ExecuteBundles bundles) = []
+own_rules (SetViewport viewport) = []
+own_rules (SetScissorRect x y width height) = []
+own_rules SetBlendConstant = []
+own_rules SetStencilReference = []
 
 -- popDebugGroup (WebGPU, "Debug Markers"), by how many groups of its place are open: 285 one is.
 abbrev pub debug_rules_by : ℕ → Bracket → List Rule

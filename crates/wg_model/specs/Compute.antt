@@ -9,7 +9,7 @@ use Rattle.wg_model.specs.Rules.{Rule}
 use Rattle.wg_model.specs.Commands.{debug_rules}
 use Rattle.wg_model.specs.Touches.{Touch, Doing}
 use Rattle.wg_model.specs.Bound.{bound_touches}
-use Rattle.wg_model.specs.Settings.{Settings, group_given, given_rules, layouts_set, end_rules, ready_rules, indirect_rules, indirect_touch}
+use Rattle.wg_model.specs.Settings.{Settings, given_rules, layouts_set, end_rules, ready_rules, indirect_rules, indirect_touch}
 
 -- how many workgroups a dispatch may have in each dimension
 abbrev pub most_workgroups : ℕ
@@ -44,7 +44,7 @@ dispatch_rules set command = dispatch_rules_by set (act command)
 -- the rules of a command of a compute pass, over what is set, but for those on the objects that it names: of debug groups, of
 -- the end, of a group that is set, and of dispatches
 abbrev pub compute_rules : Settings → Command → List Rule
-compute_rules set command = debug_rules set.depth command ++ (end_rules set.depth command ++ (given_rules (group_given command) ++ dispatch_rules set command))
+compute_rules set command = debug_rules set.depth command ++ (end_rules set.depth command ++ (given_rules command ++ dispatch_rules set command))
 
 -- a dispatch touches what the groups bind at the indexes where its pipeline's layout has an entry
 abbrev pub dispatch_touches : Settings → List Touch

@@ -1,6 +1,7 @@
 -- What is known of the objects that calls make of others: by what these are known as (WebGPU, "Bind Group Creation", "Pipeline
 -- Layout Creation", "Compute Pipeline Creation" and "Render Pipeline Creation").
-use Rattle.std.specs.Prelude.{ℕ, ◌-◌, map, List, [], false, Option, Some, None, is_none, option_map, unwrap_or, if◌then◌else◌}
+use Rattle.std.specs.Prelude.{ℕ, ◌-◌, map, List, [], false, Option, Some, None, is_none, option_map, option_and_then, option_to_list, unwrap_or, if◌then◌else◌}
+use Rattle.std.specs.List.{flat_map}
 use Rattle.std.specs.Option.{option_map_or}
 use Rattle.wg_types.specs.declared.handles.ObjRef.{ObjRef}
 use Rattle.wg_types.specs.declared.handles.BufferInfo.{BufferInfo}
@@ -105,9 +106,15 @@ bound_entry reference known entry = record { binding = entry.binding; resource =
 abbrev pub view_made : {R : Type 0} → (R → ObjRef) → (R → Option Info) → R → ViewDesc → ViewInfo
 view_made reference known texture desc = view_info (known_texture (known texture)) (reference texture) desc
 
--- what is known of a pipeline layout that is made: its bind group layouts, in their order
-abbrev pub pipeline_layout_made : {R : Type 0} → (R → ObjRef) → (R → Option Info) → List R → PipelineLayoutInfo
-pipeline_layout_made reference known layouts = record { layouts = map reference layouts; layouts_info = map (λ layout. known_group_layout (known layout)) layouts }
+-- the bind group layouts that a pipeline layout refers to: those that are not null
+abbrev pub given_layouts : {R : Type 0} → (R → ObjRef) → List (Option R) → List ObjRef
+given_layouts reference layouts = flat_map (λ layout. option_to_list (option_map reference layout)) layouts
+
+-- what is known of a pipeline layout that is made: the bind group layouts that it refers to, and what is known of each of its
+-- layouts, in their order, where null is a layout with no entry
+abbrev pub pipeline_layout_made : {R : Type 0} → (R → ObjRef) → (R → Option Info) → List (Option R) → PipelineLayoutInfo
+pipeline_layout_made reference known layouts =
+    record { layouts = given_layouts reference layouts; layouts_info = map (λ layout. known_group_layout (option_and_then known layout)) layouts }
 
 -- what is known of a bind group that is made: its layout and its entries
 abbrev pub group_made : {R : Type 0} → (R → ObjRef) → (R → Option Info) → R → List (GroupEntryOf R) → GroupInfo

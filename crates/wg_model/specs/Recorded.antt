@@ -21,6 +21,7 @@ use Rattle.wg_types.specs.declared.mappings.MapMode.TheVariants.{Read as ReadMod
 use Rattle.wg_types.specs.declared.textures.TextureInfo.{TextureInfo}
 use Rattle.wg_types.specs.declared.textures.TextureSpot.{TextureSpot}
 use Rattle.wg_types.specs.declared.render.TargetInfo.{TargetInfo}
+use Rattle.wg_types.specs.declared.limits.Maker.{Maker}
 use Rattle.wg_types.specs.declared.textures.ViewInfo.{ViewInfo}
 use Rattle.wg_rows.specs.Runs.{Bytes}
 use Rattle.wg_rows.specs.Uses.{Usages, AccessKind, Read, Both}
@@ -74,8 +75,8 @@ abbrev pub host_step : StepPlace → ℕ → Mapping → Option Step
 host_step place buffer m = if m.lo == m.hi then None else Some (touching place (host_name m.mode) (host_touches buffer m))
 
 -- the steps of a recording, which are none where it has a verdict or an open pass, and none of a bundle encoder's
-abbrev pub StepsOf : StepPlace → ℕ → Option TargetInfo → List (On × Command) → List Step
-StepsOf place device targets commands = map (placed place) (DeedsOf device targets commands)
+abbrev pub StepsOf : StepPlace → Maker → Option TargetInfo → List (On × Command) → List Step
+StepsOf place maker targets commands = map (placed place) (DeedsOf maker targets commands)
 
 -- the number of the buffer that is bound, if one is
 abbrev pub bound_buffer : BoundResource → List ℕ

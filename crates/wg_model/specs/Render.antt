@@ -1,14 +1,14 @@
 -- Render passes (WebGPU, "Render Passes" and "GPURenderCommandsMixin"): what is set, the rules of the commands, and what the
 -- whole pass touches. The commands of a pass so far stand newest first. Also WebGPU, "Drawing".
-use Rattle.std.specs.Prelude.{ℕ, ◌+◌, ◌*◌, ◌%◌, ◌==◌, nat_le, nat_lt, Bool, true, false, not, ◌&&◌, ◌||◌, List, [], ◌∷◌, ◌++◌, Option, Some, None, is_some, is_none, option_and_then, slice_index_or, if◌then◌else◌}
+use Rattle.std.specs.Prelude.{ℕ, ◌+◌, ◌*◌, ◌%◌, ◌==◌, nat_le, nat_lt, Bool, true, false, not, ◌&&◌, ◌||◌, List, [], ◌∷◌, ◌++◌, Option, Some, None, is_some, is_none, option_and_then, unwrap_or, slice_index_or, if◌then◌else◌}
 use Rattle.std.specs.List.{list_all, flat_map}
 use Rattle.std.specs.Option.{option_map_or, option_map, option_or}
-use Rattle.wg_rules.specs.declared.TheConstants.{PIPELINE_DRAWS_TO_TARGETS, PIPELINE_SPARES_READ_ONLY, VERTEX_BUFFER_HAS_VERTEX, VERTEX_SLOT_IS_WITHIN_LIMIT, VERTEX_OFFSET_IS_ALIGNED, VERTEX_RANGE_FITS_BUFFER, INDEX_BUFFER_HAS_INDEX, INDEX_OFFSET_IS_ALIGNED, INDEX_RANGE_FITS_BUFFER, VERTEX_BUFFERS_ARE_SET, VERTEX_RANGES_SUFFICE, INDEX_BUFFER_IS_SET, INDEX_RANGE_SUFFICES, BUNDLE_TARGETS_ARE_OF_PASS, BUNDLES_SPARE_READ_ONLY}
+use Rattle.wg_rules.specs.declared.TheConstants.{PIPELINE_DRAWS_TO_TARGETS, PIPELINE_SPARES_READ_ONLY, VERTEX_BUFFER_HAS_VERTEX, VERTEX_SLOT_IS_WITHIN_LIMIT, VERTEX_OFFSET_IS_ALIGNED, VERTEX_RANGE_FITS_BUFFER, INDEX_BUFFER_HAS_INDEX, INDEX_OFFSET_IS_ALIGNED, INDEX_RANGE_FITS_BUFFER, VERTEX_BUFFERS_ARE_SET, VERTEX_RANGES_SUFFICE, INDEX_BUFFER_IS_SET, INDEX_RANGE_SUFFICES, BUNDLE_TARGETS_ARE_OF_PASS, BUNDLES_SPARE_READ_ONLY, VIEWPORT_SIZE_IS_WITHIN_LIMIT, VIEWPORT_IS_WITHIN_BOUNDS, VIEWPORT_DEPTHS_ARE_IN_ORDER, SCISSOR_FITS_ATTACHMENTS, DRAWS_ARE_WITHIN_MAXIMUM}
 use Rattle.wg_types.specs.Handles.{HandleValue}
 use Rattle.wg_types.specs.Formats.{same_format}
 use Rattle.wg_types.specs.Vertex.{index_bytes}
 use Rattle.wg_types.specs.Commands.{Command, bracket, Act, begins, sets, runs, occludes, executes, neither, act}
-use Rattle.wg_types.specs.Commands.{Setting, set_pipeline, set_group, set_vertex_buffer, set_index_buffer}
+use Rattle.wg_types.specs.Commands.{Setting, set_pipeline, set_group, set_vertex_buffer, set_index_buffer, set_viewport, set_scissor, set_unread}
 use Rattle.wg_types.specs.Commands.{Running, dispatch, dispatch_indirect, draw, draw_indexed, draw_indirect, draw_indexed_indirect}
 use Rattle.wg_types.specs.declared.formats.Format.{Format}
 use Rattle.wg_types.specs.declared.handles.Info.{Info}
@@ -18,6 +18,8 @@ use Rattle.wg_types.specs.declared.vertex.VertexBuffer.{VertexBuffer}
 use Rattle.wg_types.specs.declared.render.DepthState.{DepthState}
 use Rattle.wg_types.specs.declared.render.RenderDesc.{RenderDesc}
 use Rattle.wg_types.specs.declared.render.TargetInfo.{TargetInfo}
+use Rattle.wg_types.specs.declared.render.Viewport.{Viewport}
+use Rattle.wg_types.specs.declared.limits.Limits.{Limits}
 use Rattle.wg_types.specs.declared.commands.BoundGroup.{BoundGroup}
 use Rattle.wg_types.specs.declared.commands.Bracket.{Bracket}
 use Rattle.wg_types.specs.declared.commands.Bracket.TheVariants as brackets
@@ -33,7 +35,7 @@ use Rattle.wg_model.specs.Vertex.{draw_fits}
 use Rattle.wg_types.specs.declared.bundles.BundleInfo.{BundleInfo}
 use Rattle.wg_model.specs.Bundles.{known_bundle, executed_touches}
 use Rattle.wg_model.specs.Queries.{Occlusion, occlusion_of, occlusion_call, set_of_pass, occlusion_rules, pass_end_rules, query_touches}
-use Rattle.wg_model.specs.Attachments.{RenderBegin, targets_of, targets_touches}
+use Rattle.wg_model.specs.Attachments.{RenderBegin, drawn_views, extent_of, targets_of, targets_touches}
 use Rattle.wg_model.specs.Settings.{Settings, settings, slot_after, group_given, pipeline_given, given_rules, unsets, end_rules, ready_rules, indirect_rules, indirect_touch}
 
 -- what a handle knows of a render pipeline, which of an invalid one is nothing
@@ -66,15 +68,19 @@ buffers_in (Some desc) = desc.buffers
 abbrev pub buffers_wanted : Settings → List VertexBuffer
 buffers_wanted set = buffers_in (option_and_then known_pipeline set.pipeline)
 
--- the range that a setting sets as a vertex buffer, by its slot and its size, if it sets one
-abbrev pub setting_vertex : Setting HandleValue → Option (ℕ × ℕ)
+-- the slot for which a setting sets a range as a vertex buffer, with the size of that, or with none where it unsets what is
+-- set there
+abbrev pub setting_vertex : Setting HandleValue → Option (ℕ × Option ℕ)
 setting_vertex (set_pipeline pipeline) = None
 setting_vertex (set_group index group offsets) = None
-setting_vertex (set_vertex_buffer slot buffer offset size) = Some (slot, size_or_rest buffer offset size)
+setting_vertex (set_vertex_buffer slot buffer offset size) = Some (slot, option_map (λ given. size_or_rest given offset size) buffer)
 setting_vertex (set_index_buffer buffer format offset size) = None
+setting_vertex (set_viewport viewport) = None
+setting_vertex (set_scissor x y width height) = None
+setting_vertex set_unread = None
 
--- the slot and the size of the vertex buffer that a command sets, by what it is to its pass
-abbrev pub vertex_given_by : Act HandleValue → Option (ℕ × ℕ)
+-- the slot and the size of the vertex buffer that a command sets or unsets, by what it is to its pass
+abbrev pub vertex_given_by : Act HandleValue → Option (ℕ × Option ℕ)
 vertex_given_by (begins begin) = None
 vertex_given_by (sets setting) = setting_vertex setting
 vertex_given_by (runs running) = None
@@ -82,11 +88,13 @@ vertex_given_by (occludes call) = None
 vertex_given_by (executes bundles) = None
 vertex_given_by neither = None
 
--- the range that a command sets as a vertex buffer, if it sets one
-abbrev pub vertex_given : Command → Option (ℕ × ℕ)
+-- the slot for which a command sets a range as a vertex buffer, with the size of that, or with none where it unsets what is set
+-- there
+abbrev pub vertex_given : Command → Option (ℕ × Option ℕ)
 vertex_given command = vertex_given_by (act command)
 
--- the size of the range that is set as the vertex buffer of a slot: of the last, since bundles were executed
+-- the size of the range that is set as the vertex buffer of a slot: of the last, since bundles were executed; none where null
+-- was set last
 abbrev pub vertex_set : List Command → ℕ → Option ℕ
 vertex_set [] at = None
 vertex_set (command ∷ earlier) at = if unsets command then None else slot_after (vertex_given command) at (vertex_set earlier at)
@@ -110,6 +118,9 @@ setting_index (set_pipeline pipeline) = None
 setting_index (set_group index group offsets) = None
 setting_index (set_vertex_buffer slot buffer offset size) = None
 setting_index (set_index_buffer buffer format offset size) = Some (format, size_or_rest buffer offset size)
+setting_index (set_viewport viewport) = None
+setting_index (set_scissor x y width height) = None
+setting_index set_unread = None
 
 -- the format and the size of the index buffer that a command sets, by what it is to its pass
 abbrev pub index_given_by : Act HandleValue → Option (IndexFormat × ℕ)
@@ -132,21 +143,29 @@ index_set (command ∷ earlier) = if unsets command then None else option_or (in
 -- What a command touches: all that is set counts, drawn or not, what an indirect draw reads, and what bundles touch that are
 -- executed.
 
--- what a group that is set touches, if one is
-abbrev pub bound_group_touches : Option (ℕ × BoundGroup) → List Touch
+-- what a group that is set touches, if one is; what was set before is touched also where null unsets it
+abbrev pub bound_group_touches : Option (ℕ × Option BoundGroup) → List Touch
 bound_group_touches None = []
-bound_group_touches (Some given) = flat_map place_touches (set_places (Some given.1))
+bound_group_touches (Some given) = flat_map place_touches (set_places given.1)
 
 -- the range of a buffer that draws read
 abbrev pub input_touch : HandleValue → ℕ → ℕ → Touch
 input_touch buffer offset size = (bytes_at buffer.reference.number offset size, (input_usage, Read))
 
+-- what is set as a vertex buffer is read, and null is nothing
+abbrev pub vertex_touches : Option HandleValue → ℕ → Option ℕ → List Touch
+vertex_touches None offset size = []
+vertex_touches (Some buffer) offset size = input_touch buffer offset (size_or_rest buffer offset size) ∷ []
+
 -- what is set as an input is read
 abbrev pub setting_touches : Setting HandleValue → List Touch
 setting_touches (set_pipeline pipeline) = []
 setting_touches (set_group index group offsets) = []
-setting_touches (set_vertex_buffer slot buffer offset size) = input_touch buffer offset (size_or_rest buffer offset size) ∷ []
+setting_touches (set_vertex_buffer slot buffer offset size) = vertex_touches buffer offset size
 setting_touches (set_index_buffer buffer format offset size) = input_touch buffer offset (size_or_rest buffer offset size) ∷ []
+setting_touches (set_viewport viewport) = []
+setting_touches (set_scissor x y width height) = []
+setting_touches set_unread = []
 
 -- what an indirect draw touches: the bytes that it reads of its buffer
 abbrev pub running_touches : Running HandleValue → List Touch
@@ -179,36 +198,83 @@ abbrev pub touches_over : Option (ℕ × ℕ) → List Touch → List Command �
 touches_over queries first [] = first
 touches_over queries first (command ∷ earlier) = touches_over queries first earlier ++ command_touches queries command
 
+-- How often a pass or a bundle draws: each draw counts once, with counts of 0 too, and a bundle that is executed as often as it
+-- draws itself.
+
+-- how often something draws that runs
+abbrev pub running_draws : Running HandleValue → ℕ
+running_draws (dispatch x y z) = 0
+running_draws (dispatch_indirect buffer offset) = 0
+running_draws (draw vertices instances first_vertex first_instance) = 1
+running_draws (draw_indexed indices instances first_index first_instance) = 1
+running_draws (draw_indirect buffer offset) = 1
+running_draws (draw_indexed_indirect buffer offset) = 1
+
+-- how often a bundle draws, if it is one
+abbrev pub known_draws : Option BundleInfo → ℕ
+known_draws None = 0
+known_draws (Some bundle) = bundle.draws
+
+-- how often bundles draw that are executed
+abbrev pub executed_draws : List HandleValue → ℕ
+executed_draws [] = 0
+executed_draws (bundle ∷ bundles) = known_draws (known_bundle bundle) + executed_draws bundles
+
+-- how often a command draws, by what it is to its pass
+abbrev pub draws_by : Act HandleValue → ℕ
+draws_by (begins begin) = 0
+draws_by (sets setting) = 0
+draws_by (runs running) = running_draws running
+draws_by (occludes call) = 0
+draws_by (executes bundles) = executed_draws bundles
+draws_by neither = 0
+
+-- how often a command draws
+abbrev pub command_draws : Command → ℕ
+command_draws command = draws_by (act command)
+
+-- how often the commands of a pass or a bundle draw so far; bundles that are executed set it back no more than anything else
+abbrev pub draws_of : List Command → ℕ
+draws_of [] = 0
+draws_of (command ∷ earlier) = draws_of earlier + command_draws command
+
 -- What is set in a render pass: what is set in any pass, the sizes of the ranges that are set as vertex buffers by slot, the
--- index buffer; to what it draws, its query set, if it has one, and the queries of that; and what it touches so far.
+-- index buffer; to what it draws, the width and the height of that, its query set, if it has one, and the queries of that; how
+-- often it draws so far, and how often it may, if that is given; and what it touches so far.
 pub record RenderSet : Type 0 where
   pub set : Settings
   pub ranges : List (Option ℕ)
   pub index : Option (IndexFormat × ℕ)
   pub targets : TargetInfo
+  pub extent : ℕ × ℕ
   pub queries : Option (ℕ × ℕ)
   pub occlusion : Occlusion
+  pub draws : ℕ
+  pub most : Option ℕ
   pub touches : List Touch
 
--- what is set after commands that draw to some targets, with some touches before theirs
-abbrev pub drawing_set : TargetInfo → Option (ℕ × ℕ) → List Touch → List Command → RenderSet
-drawing_set targets queries first earlier = record {
+-- what is set after commands that draw to some targets of some extent, with some touches before theirs
+abbrev pub drawing_set : TargetInfo → ℕ × ℕ → Option (ℕ × ℕ) → Option ℕ → List Touch → List Command → RenderSet
+drawing_set targets extent queries most first earlier = record {
   set = settings earlier;
   ranges = ranges_set earlier;
   index = index_set earlier;
   targets = targets;
+  extent = extent;
   queries = queries;
   occlusion = occlusion_of earlier;
+  draws = draws_of earlier;
+  most = most;
   touches = touches_over queries first earlier;
 }
 
 -- what a pass touches first are its attachments
 abbrev pub render_set : RenderBegin → List Command → RenderSet
-render_set begin earlier = drawing_set (targets_of begin) (set_of_pass begin.queries) (targets_touches begin) earlier
+render_set begin earlier = drawing_set (targets_of begin) (extent_of (drawn_views begin)) (set_of_pass begin.queries) begin.max_draws (targets_touches begin) earlier
 
--- what is set in a bundle, which has targets, but neither attachments nor queries
+-- what is set in a bundle, which has targets, but neither attachments nor queries, and may draw as often as it will
 abbrev pub bundle_set : TargetInfo → List Command → RenderSet
-bundle_set targets earlier = drawing_set targets None [] earlier
+bundle_set targets earlier = drawing_set targets (0, 0) None None [] earlier
 
 -- setPipeline: whether the formats of targets are those of a pass, where what is left out at the end does not count
 
@@ -289,6 +355,20 @@ vertex_rules slot buffer offset size =
     ∷ ((VERTEX_RANGE_FITS_BUFFER, nat_le (offset + size) (buffer_of buffer).size)
     ∷ [])))
 
+-- setVertexBuffer of null, which unsets what is set in the slot: 331 the slot is one that a pass has; 332 the offset is a
+-- multiple of 4; 333 offset and size are 0, and a size that is left out is
+abbrev pub no_vertex_rules : ℕ → ℕ → Option ℕ → List Rule
+no_vertex_rules slot offset size =
+    (VERTEX_SLOT_IS_WITHIN_LIMIT, nat_lt slot most_slots)
+    ∷ ((VERTEX_OFFSET_IS_ALIGNED, offset % 4 == 0)
+    ∷ ((VERTEX_RANGE_FITS_BUFFER, (offset == 0) && (unwrap_or size 0 == 0))
+    ∷ []))
+
+-- the rules of what is set as a vertex buffer, or of null
+abbrev pub given_vertex_rules : ℕ → Option HandleValue → ℕ → Option ℕ → List Rule
+given_vertex_rules slot None offset size = no_vertex_rules slot offset size
+given_vertex_rules slot (Some buffer) offset size = vertex_rules slot buffer offset (size_or_rest buffer offset size)
+
 -- setIndexBuffer: 335 the buffer has INDEX 16; 336 the offset is a multiple of the bytes of an index; 337 the range fits
 abbrev pub index_rules : HandleValue → IndexFormat → ℕ → ℕ → List Rule
 index_rules buffer format offset size =
@@ -347,12 +427,44 @@ abbrev pub draw_indexed_indirect_rules : RenderSet → HandleValue → ℕ → L
 draw_indexed_indirect_rules render buffer offset =
     ready_rules render.set ++ (indirect_rules buffer offset 20 ++ vertex_buffers_rule render ∷ (index_buffer_rule render ∷ []))
 
--- the rules of what is set in render passes alone
-abbrev pub setting_rules : Setting HandleValue → List Rule
-setting_rules (set_pipeline pipeline) = []
-setting_rules (set_group index group offsets) = []
-setting_rules (set_vertex_buffer slot buffer offset size) = vertex_rules slot buffer offset (size_or_rest buffer offset size)
-setting_rules (set_index_buffer buffer format offset size) = index_rules buffer format offset (size_or_rest buffer offset size)
+-- a whole number as the numbers of viewports stand: over 65536
+abbrev pub fixed : ℕ → ℕ
+fixed n = n * 65536
+
+-- rule 401 of one side of a viewport, by the limit: it begins at most twice the limit before the edge of what is attached, and
+-- ends at most twice the limit less one behind it
+abbrev pub side_fits : ℕ → Bool → ℕ → ℕ → Bool
+side_fits limit true at size = nat_le at (fixed (2 * limit)) && nat_le (size + fixed 1) (fixed (2 * limit) + at)
+side_fits limit false at size = nat_le (at + size + fixed 1) (fixed (2 * limit))
+
+-- setViewport (WebGPU, "setViewport()"): 400 neither width nor height is above the limit of 2D textures; 401 each side is where
+-- the limit allows it; 402 the least depth is at most the greatest, and that at most 1
+abbrev pub viewport_rules : Limits → Viewport → List Rule
+viewport_rules limits viewport = (
+  VIEWPORT_SIZE_IS_WITHIN_LIMIT,
+  nat_le viewport.width (fixed limits.max_texture_dimension_2d) && nat_le viewport.height (fixed limits.max_texture_dimension_2d),
+)
+    ∷ ((
+      VIEWPORT_IS_WITHIN_BOUNDS,
+      side_fits limits.max_texture_dimension_2d viewport.left viewport.x viewport.width
+          && side_fits limits.max_texture_dimension_2d viewport.above viewport.y viewport.height,
+    )
+    ∷ ((VIEWPORT_DEPTHS_ARE_IN_ORDER, nat_le viewport.min_depth viewport.max_depth && nat_le viewport.max_depth (fixed 1))
+    ∷ []))
+
+-- setScissorRect (WebGPU, "setScissorRect()"): 403 the rectangle is within what is attached
+abbrev pub scissor_rules : ℕ × ℕ → ℕ → ℕ → ℕ → ℕ → List Rule
+scissor_rules extent x y width height = (SCISSOR_FITS_ATTACHMENTS, nat_le (x + width) extent.0 && nat_le (y + height) extent.1) ∷ []
+
+-- the rules of what is set in render passes alone, by the limits of the device and the extent of what is attached
+abbrev pub setting_rules : Limits → ℕ × ℕ → Setting HandleValue → List Rule
+setting_rules limits extent (set_pipeline pipeline) = []
+setting_rules limits extent (set_group index group offsets) = []
+setting_rules limits extent (set_vertex_buffer slot buffer offset size) = given_vertex_rules slot buffer offset size
+setting_rules limits extent (set_index_buffer buffer format offset size) = index_rules buffer format offset (size_or_rest buffer offset size)
+setting_rules limits extent (set_viewport viewport) = viewport_rules limits viewport
+setting_rules limits extent (set_scissor x y width height) = scissor_rules extent x y width height
+setting_rules limits extent set_unread = []
 
 -- the rules of a draw, by what is drawn: of a draw 350 and 351; of a drawIndexed 350, 352, 353 and 351; of a drawIndirect
 -- those of its buffer and 350; of a drawIndexedIndirect those of its buffer, 350 and 352
@@ -365,28 +477,47 @@ running_rules render (draw_indirect buffer offset) = draw_indirect_rules render 
 running_rules render (draw_indexed_indirect buffer offset) = draw_indexed_indirect_rules render buffer offset
 
 -- the rules of what a command is to a render pass or a bundle encoder: what it sets, draws, asks or executes
-abbrev pub drawing_rules_by : RenderSet → Act HandleValue → List Rule
-drawing_rules_by render (begins begin) = []
-drawing_rules_by render (sets setting) = setting_rules setting
-drawing_rules_by render (runs running) = running_rules render running
-drawing_rules_by render (occludes call) = occlusion_rules render.queries render.occlusion (Some call)
-drawing_rules_by render (executes bundles) = execute_rules render.targets bundles
-drawing_rules_by render neither = []
+abbrev pub drawing_rules_by : Limits → RenderSet → Act HandleValue → List Rule
+drawing_rules_by limits render (begins begin) = []
+drawing_rules_by limits render (sets setting) = setting_rules limits render.extent setting
+drawing_rules_by limits render (runs running) = running_rules render running
+drawing_rules_by limits render (occludes call) = occlusion_rules render.queries render.occlusion (Some call)
+drawing_rules_by limits render (executes bundles) = execute_rules render.targets bundles
+drawing_rules_by limits render neither = []
 
 -- the rules of what a command sets, draws, asks or executes in a render pass or a bundle
-abbrev pub drawing_rules : RenderSet → Command → List Rule
-drawing_rules render command = drawing_rules_by render (act command)
+abbrev pub drawing_rules : Limits → RenderSet → Command → List Rule
+drawing_rules limits render command = drawing_rules_by limits render (act command)
+
+-- the end of a render pass (WebGPU, "end"): 404 it draws no more often than it may, where that is given
+abbrev pub most_draws_rules : Option ℕ → ℕ → List Rule
+most_draws_rules None draws = []
+most_draws_rules (Some most) draws = (DRAWS_ARE_WITHIN_MAXIMUM, nat_le draws most) ∷ []
+
+-- the rule of how often a pass draws, by what a command opens or closes
+abbrev pub draws_rules_by : Option ℕ → ℕ → Bracket → List Rule
+draws_rules_by most draws brackets.BeginComputePass = []
+draws_rules_by most draws brackets.BeginRenderPass = []
+draws_rules_by most draws brackets.EndPass = most_draws_rules most draws
+draws_rules_by most draws brackets.PushGroup = []
+draws_rules_by most draws brackets.PopGroup = []
+draws_rules_by most draws brackets.Neither = []
+
+-- the rule of the end of a render pass: 404 it draws no more often than it may
+abbrev pub draws_rules : Option ℕ → ℕ → Command → List Rule
+draws_rules most draws command = draws_rules_by most draws (bracket command)
 
 -- the rules of a command of a render pass or on a bundle encoder, over what is set, but for those on the objects that it
--- names: of debug groups, of the end, 310 and then 311, of a pipeline that is set, of a group that is set, and of buffers,
--- draws, queries and bundles
-abbrev pub render_rules : RenderSet → Command → List Rule
-render_rules render command =
+-- names: of debug groups, of the end, 310, then 311 and then 404, of a pipeline that is set, of a group that is set, and of
+-- buffers, viewports, draws, queries and bundles
+abbrev pub render_rules : Limits → RenderSet → Command → List Rule
+render_rules limits render command =
     debug_rules render.set.depth command
     ++ (end_rules render.set.depth command
     ++ (pass_end_rules render.occlusion.active command
+    ++ (draws_rules render.most render.draws command
     ++ (pipeline_given_rules render.targets (pipeline_given command)
-    ++ (given_rules (group_given command) ++ drawing_rules render command))))
+    ++ (given_rules command ++ drawing_rules limits render command)))))
 
 -- the whole pass is one step, which its end completes
 abbrev pub render_does_by : RenderSet → Bracket → Option Doing

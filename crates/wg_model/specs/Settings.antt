@@ -1,12 +1,12 @@
 -- What is set in passes (WebGPU, "Programmable Passes"): the pipeline and the bind groups, with the rules that go by them, and
 -- how many debug groups are open. The commands of a pass so far stand newest first. Also WebGPU, "Debug Markers", "Dispatch",
 -- "Drawing".
-use Rattle.std.specs.Prelude.{ℕ, ◌+◌, ◌-◌, ◌%◌, ◌==◌, nat_le, Bool, true, false, List, [], ◌∷◌, Option, Some, None, option_and_then, is_some, if◌then◌else◌}
+use Rattle.std.specs.Prelude.{ℕ, ◌+◌, ◌-◌, ◌%◌, ◌==◌, nat_le, Bool, true, false, List, [], ◌∷◌, Option, Some, None, option_and_then, option_map, is_some, if◌then◌else◌}
 use Rattle.std.specs.Option.{option_or}
 use Rattle.wg_rules.specs.declared.TheConstants.{EVERY_DEBUG_GROUP_OF_PASS_IS_CLOSED, PIPELINE_IS_SET, INDIRECT_BUFFER_HAS_INDIRECT, INDIRECT_OFFSET_IS_ALIGNED, INDIRECT_ARGUMENTS_FIT_BUFFER}
 use Rattle.wg_types.specs.Handles.{HandleValue}
 use Rattle.wg_types.specs.Commands.{Command, bracket, Act, begins, sets, runs, occludes, executes, neither, act}
-use Rattle.wg_types.specs.Commands.{Setting, set_pipeline, set_group, set_vertex_buffer, set_index_buffer}
+use Rattle.wg_types.specs.Commands.{Setting, set_pipeline, set_group, set_vertex_buffer, set_index_buffer, set_viewport, set_scissor, set_unread}
 use Rattle.wg_types.specs.declared.commands.BoundGroup.{BoundGroup}
 use Rattle.wg_types.specs.declared.groups.GroupLayoutInfo.{GroupLayoutInfo}
 use Rattle.wg_types.specs.declared.commands.Bracket.{Bracket}
@@ -16,7 +16,7 @@ use Rattle.wg_rows.specs.Uses.{Read}
 use Rattle.wg_model.specs.Buffers.{has_usage}
 use Rattle.wg_model.specs.Commands.{buffer_of}
 use Rattle.wg_model.specs.Touches.{Touch, bytes_at, input_usage}
-use Rattle.wg_model.specs.Bound.{known_group, layouts_in, owner_of, set_rules, bound_rules}
+use Rattle.wg_model.specs.Bound.{known_group, layouts_in, owner_of, set_rules, unset_rules, bound_rules}
 
 -- how many debug groups are open after one more command
 abbrev pub depth_by : ℕ → Bracket → ℕ
@@ -42,6 +42,9 @@ setting_pipeline (set_pipeline pipeline) = Some pipeline
 setting_pipeline (set_group index group offsets) = None
 setting_pipeline (set_vertex_buffer slot buffer offset size) = None
 setting_pipeline (set_index_buffer buffer format offset size) = None
+setting_pipeline (set_viewport viewport) = None
+setting_pipeline (set_scissor x y width height) = None
+setting_pipeline set_unread = None
 
 -- the pipeline that a command sets, by what it is to its pass
 abbrev pub pipeline_given_by : Act HandleValue → Option HandleValue
@@ -74,20 +77,27 @@ abbrev pub pipeline_set : List Command → Option HandleValue
 pipeline_set [] = None
 pipeline_set (command ∷ earlier) = if unsets command then None else option_or (pipeline_given command) (pipeline_set earlier)
 
--- what stands in a slot after one more command, which may put something into a slot
-abbrev pub slot_after : {X : Type 0} → Option (ℕ × X) → ℕ → Option X → Option X
+-- what stands in a slot after one more command, which may put something into a slot, or empty one
+abbrev pub slot_after : {X : Type 0} → Option (ℕ × Option X) → ℕ → Option X → Option X
 slot_after None at before = before
-slot_after (Some given) at before = if given.0 == at then Some given.1 else before
+slot_after (Some given) at before = if given.0 == at then given.1 else before
 
--- the bind group that a setting sets, with its index, if it sets one
-abbrev pub setting_group : Setting HandleValue → Option (ℕ × BoundGroup)
+-- a group as it is set with some offsets
+abbrev pub bound_with : List ℕ → HandleValue → BoundGroup
+bound_with offsets group = record { group = group; offsets = offsets }
+
+-- the index at which a setting sets a bind group, with the group, or with none where it unsets what is set there
+abbrev pub setting_group : Setting HandleValue → Option (ℕ × Option BoundGroup)
 setting_group (set_pipeline pipeline) = None
-setting_group (set_group index group offsets) = Some (index, record { group = group; offsets = offsets })
+setting_group (set_group index group offsets) = Some (index, option_map (bound_with offsets) group)
 setting_group (set_vertex_buffer slot buffer offset size) = None
 setting_group (set_index_buffer buffer format offset size) = None
+setting_group (set_viewport viewport) = None
+setting_group (set_scissor x y width height) = None
+setting_group set_unread = None
 
--- the group that a command sets, with its index and offsets, by what it is to its pass
-abbrev pub group_given_by : Act HandleValue → Option (ℕ × BoundGroup)
+-- the group that a command sets or unsets, with its index and offsets, by what it is to its pass
+abbrev pub group_given_by : Act HandleValue → Option (ℕ × Option BoundGroup)
 group_given_by (begins begin) = None
 group_given_by (sets setting) = setting_group setting
 group_given_by (runs running) = None
@@ -95,12 +105,12 @@ group_given_by (occludes call) = None
 group_given_by (executes bundles) = None
 group_given_by neither = None
 
--- the bind group that a command sets, with its index, if it sets one
-abbrev pub group_given : Command → Option (ℕ × BoundGroup)
+-- the index at which a command sets a bind group, with the group, or with none where it unsets what is set there
+abbrev pub group_given : Command → Option (ℕ × Option BoundGroup)
 group_given command = group_given_by (act command)
 
 -- the group, with its offsets, that was set last at an index, if one was since the pass began and since bundles were executed
--- last
+-- last; none where null was set last
 abbrev pub group_set : List Command → ℕ → Option BoundGroup
 group_set [] at = None
 group_set (command ∷ earlier) at = if unsets command then None else slot_after (group_given command) at (group_set earlier at)
@@ -145,10 +155,33 @@ end_rules_by depth brackets.Neither = []
 abbrev pub end_rules : ℕ → Command → List Rule
 end_rules depth command = end_rules_by depth (bracket command)
 
--- the rules of a bind group that is set, if one is
-abbrev pub given_rules : Option (ℕ × BoundGroup) → List Rule
-given_rules None = []
-given_rules (Some given) = set_rules given.0 (known_group given.1.group) given.1.offsets
+-- the rules of a bind group that is set, or of null, which has nothing that its offsets could move
+abbrev pub group_rules : ℕ → Option HandleValue → List ℕ → List Rule
+group_rules index None offsets = unset_rules index offsets
+group_rules index (Some group) offsets = set_rules index (known_group group) offsets
+
+-- the rules of what a setting sets as a bind group, if it does
+abbrev pub setting_group_rules : Setting HandleValue → List Rule
+setting_group_rules (set_pipeline pipeline) = []
+setting_group_rules (set_group index group offsets) = group_rules index group offsets
+setting_group_rules (set_vertex_buffer slot buffer offset size) = []
+setting_group_rules (set_index_buffer buffer format offset size) = []
+setting_group_rules (set_viewport viewport) = []
+setting_group_rules (set_scissor x y width height) = []
+setting_group_rules set_unread = []
+
+-- the rules of what a command sets as a bind group, by what it is to its pass
+abbrev pub given_rules_by : Act HandleValue → List Rule
+given_rules_by (begins begin) = []
+given_rules_by (sets setting) = setting_group_rules setting
+given_rules_by (runs running) = []
+given_rules_by (occludes call) = []
+given_rules_by (executes bundles) = []
+given_rules_by neither = []
+
+-- the rules of a bind group that a command sets, or of null
+abbrev pub given_rules : Command → List Rule
+given_rules command = given_rules_by (act command)
 
 -- dispatches and draws: 340 a pipeline is set, and then the rules of the groups
 abbrev pub ready_rules : Settings → List Rule

@@ -6,7 +6,7 @@ use Rattle.wg_trace.specs.declared.steps.StepName.TheVariants as name
 use Rattle.wg_trace.specs.declared.steps.Deed.{Deed}
 use Rattle.wg_types.specs.Handles.{HandleValue}
 use Rattle.wg_types.specs.Commands.{Command}
-use Rattle.wg_types.specs.declared.commands.CommandOf.TheVariants.{BeginComputePass, BeginRenderPass, CopyBufferToBuffer, CopyBufferToTexture, CopyTextureToBuffer, CopyTextureToTexture, ClearBuffer, ResolveQuerySet, PushDebugGroup, PopDebugGroup, End, SetPipeline, SetBindGroup, Dispatch, DispatchIndirect, SetVertexBuffer, SetIndexBuffer, Draw, DrawIndexed, DrawIndirect, DrawIndexedIndirect, BeginOcclusionQuery, EndOcclusionQuery, ExecuteBundles}
+use Rattle.wg_types.specs.declared.commands.CommandOf.TheVariants.{BeginComputePass, BeginRenderPass, CopyBufferToBuffer, CopyBufferToTexture, CopyTextureToBuffer, CopyTextureToTexture, ClearBuffer, ResolveQuerySet, PushDebugGroup, PopDebugGroup, InsertDebugMarker, End, SetPipeline, SetBindGroup, Dispatch, DispatchIndirect, SetVertexBuffer, SetIndexBuffer, Draw, DrawIndexed, DrawIndirect, DrawIndexedIndirect, BeginOcclusionQuery, EndOcclusionQuery, ExecuteBundles, SetViewport, SetScissorRect, SetBlendConstant, SetStencilReference}
 use Rattle.wg_types.specs.declared.textures.TextureInfo.{TextureInfo}
 use Rattle.wg_types.specs.declared.textures.TextureSpot.{TextureSpot}
 use Rattle.wg_types.specs.declared.textures.DataLayout.{DataLayout}
@@ -231,6 +231,7 @@ encoder_does (ClearBuffer buffer offset size) = clear_does buffer offset (size_o
 encoder_does (ResolveQuerySet queries first count buffer offset) = resolve_set_does queries first count buffer offset
 encoder_does PushDebugGroup = None
 encoder_does PopDebugGroup = None
+encoder_does InsertDebugMarker = None
 encoder_does End = None
 encoder_does (SetPipeline pipeline) = None
 encoder_does (SetBindGroup index group offsets) = None
@@ -245,3 +246,7 @@ encoder_does (DrawIndexedIndirect buffer offset) = None
 encoder_does (BeginOcclusionQuery index) = None
 encoder_does EndOcclusionQuery = None
 encoder_does (ExecuteBundles bundles) = None
+encoder_does (SetViewport viewport) = None
+encoder_does (SetScissorRect x y width height) = None
+encoder_does SetBlendConstant = None
+encoder_does SetStencilReference = None

@@ -16,11 +16,13 @@ use Rattle.wg_model.specs.Touches.{Doing, scope_in, deed_of, encoder_does}
 use Rattle.wg_model.specs.Settings.{Settings, depth_after, debug_depth, settings}
 use Rattle.wg_model.specs.Compute.{compute_rules, compute_does}
 use Rattle.wg_model.specs.Attachments.{RenderBegin, begin_of, begun_rules}
-use Rattle.wg_model.specs.Render.{RenderSet, render_set, bundle_set, render_rules, render_does}
+use Rattle.wg_model.specs.Render.{RenderSet, render_set, bundle_set, draws_of, render_rules, render_does}
 use Rattle.wg_model.specs.Bundles.{bundle_touches, references_within}
 use Rattle.wg_types.specs.declared.bundles.BundleInfo.{BundleInfo}
 use Rattle.wg_types.specs.declared.bundles.BundleTouch.{BundleTouch}
 use Rattle.wg_types.specs.declared.render.TargetInfo.{TargetInfo}
+use Rattle.wg_types.specs.declared.limits.Limits.{Limits}
+use Rattle.wg_types.specs.declared.limits.Maker.{Maker}
 use Rattle.wg_trace.specs.declared.steps.StepName.TheVariants as name
 use Rattle.wg_model.specs.Scopes.{Use}
 use Rattle.wg_trace.specs.declared.steps.Deed.{Deed}
@@ -38,48 +40,48 @@ pub record PassSoFar : Type 0 where
 -- One pass. It keeps its own first unmet rule.
 
 -- the first unmet rule of the begin of a pass: of the objects that it names, and then of a render pass its own
-abbrev pub begun_rule : ℕ → Command → Option ℕ
-begun_rule device begin = option_or (first_unmet (common_rules device (named begin))) (first_unmet (begun_rules begin))
+abbrev pub begun_rule : Maker → Command → Option ℕ
+begun_rule maker begin = option_or (first_unmet (common_rules maker.device (named begin))) (first_unmet (begun_rules begin))
 
 -- the first unmet rule of a command of a compute pass, over what is set
-abbrev pub compute_rule : ℕ → Settings → Command → Option ℕ
-compute_rule device set command =
-    option_or (first_unmet (common_rules device (named_on kind.ComputePass command))) (first_unmet (compute_rules set command))
+abbrev pub compute_rule : Maker → Settings → Command → Option ℕ
+compute_rule maker set command =
+    option_or (first_unmet (common_rules maker.device (named_on kind.ComputePass command))) (first_unmet (compute_rules set command))
 
 -- the first unmet rule of a command of a render pass, over what is set
-abbrev pub render_rule : ℕ → RenderSet → Command → Option ℕ
-render_rule device set command =
-    option_or (first_unmet (common_rules device (named_on kind.RenderPass command))) (first_unmet (render_rules set command))
+abbrev pub render_rule : Maker → RenderSet → Command → Option ℕ
+render_rule maker set command =
+    option_or (first_unmet (common_rules maker.device (named_on kind.RenderPass command))) (first_unmet (render_rules maker.limits set command))
 
 -- the first unmet rule of a command of a pass after the earlier ones, by how the pass was begun
-abbrev pub rule_by : ℕ → RenderBegin → Bracket → List Command → Command → Option ℕ
-rule_by device begin brackets.BeginComputePass earlier command = compute_rule device (settings earlier) command
-rule_by device begin brackets.BeginRenderPass earlier command = render_rule device (render_set begin earlier) command
-rule_by device begin brackets.EndPass earlier command = None
-rule_by device begin brackets.PushGroup earlier command = None
-rule_by device begin brackets.PopGroup earlier command = None
-rule_by device begin brackets.Neither earlier command = None
+abbrev pub rule_by : Maker → RenderBegin → Bracket → List Command → Command → Option ℕ
+rule_by maker begin brackets.BeginComputePass earlier command = compute_rule maker (settings earlier) command
+rule_by maker begin brackets.BeginRenderPass earlier command = render_rule maker (render_set begin earlier) command
+rule_by maker begin brackets.EndPass earlier command = None
+rule_by maker begin brackets.PushGroup earlier command = None
+rule_by maker begin brackets.PopGroup earlier command = None
+rule_by maker begin brackets.Neither earlier command = None
 
 -- the first unmet rule of a command of a pass, after the earlier ones: of those on the objects that it names there, and then
 -- of its own by the kind of the pass
-abbrev pub rule_in : ℕ → Command → List Command → Command → Option ℕ
-rule_in device begin earlier command = rule_by device (begin_of begin) (bracket begin) earlier command
+abbrev pub rule_in : Maker → Command → List Command → Command → Option ℕ
+rule_in maker begin earlier command = rule_by maker (begin_of begin) (bracket begin) earlier command
 
 -- a pass's own first unmet rule, that of its begin first, its end's rules 310 and 311 included
-abbrev pub pass_rule : ℕ → Command → List Command → Option ℕ
-pass_rule device begin [] = begun_rule device begin
-pass_rule device begin (command ∷ earlier) = option_or (pass_rule device begin earlier) (rule_in device begin earlier command)
+abbrev pub pass_rule : Maker → Command → List Command → Option ℕ
+pass_rule maker begin [] = begun_rule maker begin
+pass_rule maker begin (command ∷ earlier) = option_or (pass_rule maker begin earlier) (rule_in maker begin earlier command)
 
 -- what a command on a bundle encoder gives it: the first unmet rule of those on the objects that it names there, and then of
 -- those of a render pass that draws to its targets, over what is set in the bundle
-abbrev pub bundle_rule : ℕ → TargetInfo → List Command → Command → Option ℕ
-bundle_rule device targets earlier command =
-    option_or (first_unmet (common_rules device (named_on kind.BundleEncoder command))) (first_unmet (render_rules (bundle_set targets earlier) command))
+abbrev pub bundle_rule : Maker → TargetInfo → List Command → Command → Option ℕ
+bundle_rule maker targets earlier command =
+    option_or (first_unmet (common_rules maker.device (named_on kind.BundleEncoder command))) (first_unmet (render_rules maker.limits (bundle_set targets earlier) command))
 
 -- the rule that invalidated a bundle encoder first: the first that a command gave it
-abbrev pub bundle_verdict : ℕ → TargetInfo → List Command → Option ℕ
-bundle_verdict device targets [] = None
-bundle_verdict device targets (command ∷ earlier) = option_or (bundle_verdict device targets earlier) (bundle_rule device targets earlier command)
+abbrev pub bundle_verdict : Maker → TargetInfo → List Command → Option ℕ
+bundle_verdict maker targets [] = None
+bundle_verdict maker targets (command ∷ earlier) = option_or (bundle_verdict maker targets earlier) (bundle_rule maker targets earlier command)
 
 -- what a command of a pass completes, if it does: a step, which has a usage scope
 abbrev pub does_by : RenderBegin → Bracket → List Command → Command → Option Doing
@@ -158,26 +160,26 @@ encoder_depth [] = 0
 encoder_depth (kept ∷ older) = depth_on (encoder_depth older) (open_pass older) kept.0 kept.1
 
 -- what an end hands over: the rule of its pass
-abbrev pub handed : ℕ → Option PassSoFar → Command → Option ℕ
-handed device None command = None
-handed device (Some pass) command = if is_end command then pass_rule device pass.begin (command ∷ pass.earlier) else None
+abbrev pub handed : Maker → Option PassSoFar → Command → Option ℕ
+handed maker None command = None
+handed maker (Some pass) command = if is_end command then pass_rule maker pass.begin (command ∷ pass.earlier) else None
 
 -- what a command on the encoder gives it: on a locked one rule 240, on an unlocked one its own first unmet rule; that of a
 -- begin goes to the pass that it begins
-abbrev pub encoder_gives : ℕ → Option PassSoFar → ℕ → Command → Option ℕ
-encoder_gives device (Some pass) depth command = Some NO_PASS_IS_OPEN
-encoder_gives device None depth command = if is_begin command then None else first_unmet (command_rules device depth command)
+abbrev pub encoder_gives : Maker → Option PassSoFar → ℕ → Command → Option ℕ
+encoder_gives maker (Some pass) depth command = Some NO_PASS_IS_OPEN
+encoder_gives maker None depth command = if is_begin command then None else first_unmet (command_rules maker.device depth command)
 
 -- what a command gives the encoder: on an unlocked one its own first unmet rule, on a locked one 240; the end of the open pass
 -- hands over that pass's rule; other commands of passes give nothing
-abbrev pub given : ℕ → Option PassSoFar → ℕ → On → Command → Option ℕ
-given device opened depth Encoder command = encoder_gives device opened depth command
-given device opened depth (Pass pass) command = if is_open opened pass then handed device opened command else None
+abbrev pub given : Maker → Option PassSoFar → ℕ → On → Command → Option ℕ
+given maker opened depth Encoder command = encoder_gives maker opened depth command
+given maker opened depth (Pass pass) command = if is_open opened pass then handed maker opened command else None
 
 -- the rule that invalidated the encoder first: the first that a command gave it
-abbrev pub verdict : ℕ → Kept → Option ℕ
-verdict device [] = None
-verdict device (kept ∷ older) = option_or (verdict device older) (given device (open_pass older) (encoder_depth older) kept.0 kept.1)
+abbrev pub verdict : Maker → Kept → Option ℕ
+verdict maker [] = None
+verdict maker (kept ∷ older) = option_or (verdict maker older) (given maker (open_pass older) (encoder_depth older) kept.0 kept.1)
 
 -- A recording of commands in order, that of a bundle encoder with its targets.
 
@@ -186,9 +188,9 @@ abbrev pub bundled : List (On × Command) → List Command
 bundled commands = map (λ (kept : On × Command). kept.1) (reverse commands)
 
 -- the rule that invalidated the encoder or bundle encoder of a recording first, if one did
-abbrev pub Verdict : ℕ → Option TargetInfo → List (On × Command) → Option ℕ
-Verdict device None commands = verdict device (reverse commands)
-Verdict device (Some targets) commands = bundle_verdict device targets (bundled commands)
+abbrev pub Verdict : Maker → Option TargetInfo → List (On × Command) → Option ℕ
+Verdict maker None commands = verdict maker (reverse commands)
+Verdict maker (Some targets) commands = bundle_verdict maker targets (bundled commands)
 
 -- how many debug groups of the encoder of a recording are open, not counting those of its passes; of a bundle encoder all that
 -- are open
@@ -232,38 +234,75 @@ usage_scopes [] = []
 usage_scopes (kept ∷ older) = usage_scopes older ++ scopes_at (open_pass older) kept.0 kept.1
 
 -- the usage scopes of an encoder's commands, where there is no verdict and no open pass, and else none
-abbrev pub encoder_scopes : ℕ → Kept → List (List Use)
-encoder_scopes device kept = if is_none (verdict device kept) && is_none (open_pass kept) then usage_scopes kept else []
+abbrev pub encoder_scopes : Maker → Kept → List (List Use)
+encoder_scopes maker kept = if is_none (verdict maker kept) && is_none (open_pass kept) then usage_scopes kept else []
 
 -- the usage scope of a bundle: all that its commands touch, where no rule is unmet, and else none
-abbrev pub bundle_scopes : ℕ → TargetInfo → List Command → List (List Use)
-bundle_scopes device targets earlier = if is_none (bundle_verdict device targets earlier) then scope_in (name.RenderPass, (bundle_set targets earlier).touches) ∷ [] else []
+abbrev pub bundle_scopes : Maker → TargetInfo → List Command → List (List Use)
+bundle_scopes maker targets earlier = if is_none (bundle_verdict maker targets earlier) then scope_in (name.RenderPass, (bundle_set targets earlier).touches) ∷ [] else []
 
 -- the usage scopes of a recording, in order: of an encoder's none where there is a verdict or an open pass; of a bundle
 -- encoder's one, of all that is set in the bundle, and none where there is a verdict
-abbrev pub ScopesOf : ℕ → Option TargetInfo → List (On × Command) → List (List Use)
-ScopesOf device None commands = encoder_scopes device (reverse commands)
-ScopesOf device (Some targets) commands = bundle_scopes device targets (bundled commands)
+abbrev pub ScopesOf : Maker → Option TargetInfo → List (On × Command) → List (List Use)
+ScopesOf maker None commands = encoder_scopes maker (reverse commands)
+ScopesOf maker (Some targets) commands = bundle_scopes maker targets (bundled commands)
 
 -- what an encoder's commands do as it is printed, where there is no verdict and no open pass, and else nothing
-abbrev pub encoder_deeds : ℕ → Kept → List Deed
-encoder_deeds device kept = if is_none (verdict device kept) && is_none (open_pass kept) then deeds kept else []
+abbrev pub encoder_deeds : Maker → Kept → List Deed
+encoder_deeds maker kept = if is_none (verdict maker kept) && is_none (open_pass kept) then deeds kept else []
 
 -- what the commands of a recording do, in order; of a bundle encoder's nothing
-abbrev pub DeedsOf : ℕ → Option TargetInfo → List (On × Command) → List Deed
-DeedsOf device None commands = encoder_deeds device (reverse commands)
-DeedsOf device (Some targets) commands = []
+abbrev pub DeedsOf : Maker → Option TargetInfo → List (On × Command) → List Deed
+DeedsOf maker None commands = encoder_deeds maker (reverse commands)
+DeedsOf maker (Some targets) commands = []
 
--- What is known of the bundle that a recording makes: where some rule was unmet, not what it touches.
-abbrev pub recorded_touches : ℕ → TargetInfo → List Command → List BundleTouch
-recorded_touches device targets earlier = if is_none (bundle_verdict device targets earlier) then bundle_touches (bundle_set targets earlier).touches else []
+-- What is known of the bundle that a recording makes: where some rule was unmet, not what it touches, and not how often it draws.
+abbrev pub recorded_touches : Maker → TargetInfo → List Command → List BundleTouch
+recorded_touches maker targets earlier = if is_none (bundle_verdict maker targets earlier) then bundle_touches (bundle_set targets earlier).touches else []
+
+-- the limits of nothing, as of a recording that no recorder made
+abbrev pub no_limits : Limits
+no_limits = record {
+  max_texture_dimension_1d = 0;
+  max_texture_dimension_2d = 0;
+  max_texture_dimension_3d = 0;
+  max_texture_array_layers = 0;
+  max_bind_groups = 0;
+  max_bindings_per_bind_group = 0;
+  max_dynamic_uniform_buffers_per_pipeline_layout = 0;
+  max_dynamic_storage_buffers_per_pipeline_layout = 0;
+  max_sampled_textures_per_shader_stage = 0;
+  max_samplers_per_shader_stage = 0;
+  max_storage_buffers_per_shader_stage = 0;
+  max_storage_textures_per_shader_stage = 0;
+  max_uniform_buffers_per_shader_stage = 0;
+  max_uniform_buffer_binding_size = 0;
+  max_storage_buffer_binding_size = 0;
+  min_uniform_buffer_offset_alignment = 0;
+  min_storage_buffer_offset_alignment = 0;
+  max_vertex_buffers = 0;
+  max_vertex_attributes = 0;
+  max_vertex_buffer_array_stride = 0;
+  max_buffer_size = 0;
+  max_color_attachments = 0;
+  max_compute_workgroups_per_dimension = 0;
+  max_queries_per_set = 0;
+}
+
+-- how often the bundle draws that a recording makes: where some rule was unmet, not at all
+abbrev pub recorded_draws : Maker → TargetInfo → List Command → ℕ
+recorded_draws maker targets earlier = if is_none (bundle_verdict maker targets earlier) then draws_of earlier else 0
 
 -- the targets of nothing, as of a recording that comes after the first of a bundle encoder
 abbrev pub no_targets : TargetInfo
 no_targets = record { colors = []; depth = None; samples = 1; depth_read_only = false; stencil_read_only = false }
 
--- what is known of the bundle that a recording makes; of an encoder's, one without targets that touches nothing
-abbrev pub bundle_of : ℕ → Option TargetInfo → List (On × Command) → BundleInfo
-bundle_of device None commands = record { targets = no_targets; named = references_within commands; touches = [] }
-bundle_of device (Some targets) commands =
-    record { targets = targets; named = references_within commands; touches = recorded_touches device targets (bundled commands) }
+-- what is known of the bundle that a recording makes; of an encoder's, one without targets that touches nothing and does not draw
+abbrev pub bundle_of : Maker → Option TargetInfo → List (On × Command) → BundleInfo
+bundle_of maker None commands = record { targets = no_targets; named = references_within commands; touches = []; draws = 0 }
+bundle_of maker (Some targets) commands = record {
+  targets = targets;
+  named = references_within commands;
+  touches = recorded_touches maker targets (bundled commands);
+  draws = recorded_draws maker targets (bundled commands);
+}

@@ -9,7 +9,7 @@ use Rattle.wg_types.specs.declared.wanted.Kind.{Kind}
 use Rattle.wg_types.specs.declared.wanted.Wanted.{Wanted}
 use Rattle.wg_types.specs.declared.wanted.Wanted.TheVariants as wanted
 use Rattle.wg_types.specs.Wanted.{within}
-use Rattle.wg_types.specs.Refs.{all_wanted, maybe_wanted}
+use Rattle.wg_types.specs.Refs.{all_wanted, some_wanted, maybe_wanted}
 use Rattle.wg_types.specs.Render.{color_named, depth_named, targets_named, begin_named, map_color, map_depth, map_begin}
 use Rattle.wg_types.specs.declared.render.ColorTargetOf.{ColorTargetOf}
 use Rattle.wg_types.specs.declared.render.DepthTargetOf.{DepthTargetOf}
@@ -22,6 +22,7 @@ use Rattle.wg_types.specs.Commands.{place_wanted, kind_begun, named, named_on, m
 use Rattle.wg_types.specs.declared.commands.CommandOf.{CommandOf}
 use Rattle.wg_types.specs.Requests.{kind_made, named as asked_of, map_refs as map_asked}
 use Rattle.wg_types.specs.declared.requests.RequestOf.{RequestOf}
+use Rattle.wg_types.specs.declared.requests.RequestOf.TheVariants.{CreatePipelineLayout, CreateBindGroup, CreateComputePipeline, CreateRenderPipeline, Submit}
 use Rattle.wg_script.specs.CallOf.{Call, map_call}
 use Rattle.wg_script.specs.declared.calls.CallOf.{CallOf}
 use Rattle.wg_types.specs.Canvases.{kind_made as canvas_made, named as canvas_named, map_canvas}
@@ -53,6 +54,11 @@ all_named : {R S : Type 0} (f : R → S) (want : Wanted) (xs : List R) → all_w
 all_named f want [] = refl
 all_named f want (x ∷ xs) = ap (λ rest. (f x, want) ∷ rest) (all_named f want xs)
 
+-- a list of objects of which some may be left out
+some_named : {R S : Type 0} (f : R → S) (want : Wanted) (xs : List (Option R)) → some_wanted want (map (option_map f) xs) ≡ map (other f) (some_wanted want xs)
+some_named f want [] = refl
+some_named f want (x ∷ xs) = ap₂ (λ a b. a ++ b) (maybe_mapped f want x) (some_named f want xs) ∙ sym (map-append (other f) (maybe_wanted want x) (some_wanted want xs))
+
 -- the views of attachments, and the query set after them
 
 color_mapped : {R S : Type 0} (f : R → S) (color : Option (ColorTargetOf R)) → color_named (option_map (map_color f) color) ≡ map (other f) (color_named color)
@@ -74,7 +80,7 @@ begin_mapped : {R S : Type 0} (f : R → S) (begin : RenderBeginOf R) → begin_
 begin_mapped f begin = ap₂ (λ a b. a ++ b) (targets_mapped f begin) (maybe_mapped f wanted.Queries begin.queries) ∙ sym (map-append (other f) (targets_named begin) (maybe_wanted wanted.Queries begin.queries))
 
 command_named : {R S : Type 0} (f : R → S) (command : CommandOf R) → named (map_refs f command) ≡ map (other f) (named command)
-command_named f command = grind (arith, begin_mapped, all_named)
+command_named f command = grind (arith, begin_mapped, all_named, maybe_mapped)
 
 command_place : {R S : Type 0} (f : R → S) (command : CommandOf R) → place_wanted (map_refs f command) ≡ place_wanted command
 command_place f command = grind arith
@@ -92,7 +98,12 @@ entries_mapped f [] = refl
 entries_mapped f (x ∷ xs) = ap₂ (λ a b. a ∷ b) (resource_mapped f x.resource) (entries_mapped f xs)
 
 request_named : {R S : Type 0} (f : R → S) (request : RequestOf R) → asked_of (map_asked f request) ≡ map (other f) (asked_of request)
-request_named f request = grind (arith, all_named, maybe_mapped, entries_mapped)
+request_named f (CreatePipelineLayout layouts) = some_named f wanted.GroupLayout layouts
+request_named f (CreateBindGroup layout entries) = ap (λ rest. (f layout, wanted.GroupLayout) ∷ rest) (entries_mapped f entries)
+request_named f (CreateComputePipeline layout iface) = maybe_mapped f wanted.PipelineLayout layout
+request_named f (CreateRenderPipeline layout desc) = maybe_mapped f wanted.PipelineLayout layout
+request_named f (Submit buffers) = all_named f wanted.CommandBuffer buffers
+request_named f _ = refl
 
 request_kind : {R S : Type 0} (f : R → S) (request : RequestOf R) → kind_made (map_asked f request) ≡ kind_made request
 request_kind f request = grind arith

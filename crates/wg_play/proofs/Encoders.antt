@@ -8,6 +8,7 @@ use Rattle.std.proofs.lemmas.List.Elements.{All-nil, All-cons, All-head, All-tai
 use Rattle.wg_types.specs.Commands.{bracket, kind_begun}
 use Rattle.wg_types.specs.declared.commands.CommandOf.{CommandOf}
 use Rattle.wg_types.specs.declared.wanted.Kind.{Kind}
+use Rattle.wg_history.specs.declared.events.Setup.{Setup}
 use Rattle.wg_script.specs.CallOf.{BoundCall}
 use Rattle.wg_script.specs.declared.calls.CallOf.TheVariants.{Record, Ask, Canvas}
 use Rattle.wg_names.specs.Uses.{made_as, made_of}
@@ -83,17 +84,17 @@ split_by (y ∷ xs) x (suc k) less is =
 
 -- ---- what calls leave
 
-pass_stays : (serial : ℕ) (calls : List Answered) (sight : Sight) (place encoder number : ℕ) → slice_get sight.own place ≡ Some (object.Pass encoder number)
-    → slice_get (after_calls serial sight calls).own place ≡ Some (object.Pass encoder number)
-pass_stays serial [] sight place encoder number is = is
-pass_stays serial (call ∷ calls) sight place encoder number is =
-    pass_stays serial calls (after_call serial sight call) place encoder number (call_leaves serial sight call.0 call.1 place encoder number is)
+pass_stays : (setup : Setup) (calls : List Answered) (sight : Sight) (place encoder number : ℕ) → slice_get sight.own place ≡ Some (object.Pass encoder number)
+    → slice_get (after_calls setup sight calls).own place ≡ Some (object.Pass encoder number)
+pass_stays setup [] sight place encoder number is = is
+pass_stays setup (call ∷ calls) sight place encoder number is =
+    pass_stays setup calls (after_call setup sight call) place encoder number (call_leaves setup sight call.0 call.1 place encoder number is)
 
-after_split : (serial : ℕ) (a : List PlayedCall) (call : PlayedCall) (b : List PlayedCall) (sight : Sight)
-    → after_calls serial sight (map with_answer (a ++ call ∷ b))
-    ≡ after_calls serial (after_call serial (after_calls serial sight (map with_answer a)) (with_answer call)) (map with_answer b)
-after_split serial [] call b sight = refl
-after_split serial (first ∷ a) call b sight = after_split serial a call b (after_call serial sight (with_answer first))
+after_split : (setup : Setup) (a : List PlayedCall) (call : PlayedCall) (b : List PlayedCall) (sight : Sight)
+    → after_calls setup sight (map with_answer (a ++ call ∷ b))
+    ≡ after_calls setup (after_call setup (after_calls setup sight (map with_answer a)) (with_answer call)) (map with_answer b)
+after_split setup [] call b sight = refl
+after_split setup (first ∷ a) call b sight = after_split setup a call b (after_call setup sight (with_answer first))
 
 all_before : (P : Answered → Type 0) (a : List PlayedCall) (rest : List PlayedCall) → All P (map with_answer (a ++ rest)) → All P (map with_answer a)
 all_before P [] rest all = All-nil P
@@ -106,19 +107,19 @@ all_before P (call ∷ a) rest all =
 abbrev begin_at : List Object → ℕ → Sight
 begin_at others first = record { others = others; first = first; own = [] }
 
-abbrev sight_with : ℕ → List Object → ℕ → List PlayedCall → Sight
-sight_with serial others first calls = after_calls serial (begin_at others first) (map with_answer calls)
+abbrev sight_with : Setup → List Object → ℕ → List PlayedCall → Sight
+sight_with setup others first calls = after_calls setup (begin_at others first) (map with_answer calls)
 
-lane_stands : (serial : ℕ) (others : List Object) (first : ℕ) (visible : Slots) (calls : List PlayedCall) (rest : List BoundCall)
+lane_stands : (setup : Setup) (others : List Object) (first : ℕ) (visible : Slots) (calls : List PlayedCall) (rest : List BoundCall)
     → LaneIsBound visible [] (calls_in calls ++ rest)
     → AreFrom first (slots_of (made_in (calls_in calls))) → All IsAnsweredCall (map with_answer calls)
-    → Stands (sight_with serial others first calls).first (sight_with serial others first calls).own (calls_in calls)
-lane_stands serial others first visible calls rest bound numbers answered =
-    let sight : Sight = sight_with serial others first calls in
+    → Stands (sight_with setup others first calls).first (sight_with setup others first calls).own (calls_in calls)
+lane_stands setup others first visible calls rest bound numbers answered =
+    let sight : Sight = sight_with setup others first calls in
     let same : map (λ (c : Answered). c.0) (map with_answer calls) ≡ calls_in calls = lane_same calls in
     let zero_is : first ≡ first + 0 = omega arith in
     subst (λ (cs : List BoundCall). Stands sight.first sight.own cs) same
-    (all_stand serial visible (map with_answer calls) [] (begin_at others first) (no_calls first) answered
+    (all_stand setup visible (map with_answer calls) [] (begin_at others first) (no_calls first) answered
     (subst (λ (cs : List BoundCall). LaneIsBound visible [] cs) (sym same) (lane_front visible [] (calls_in calls) rest bound))
     (subst (λ (cs : List BoundCall). AreFrom (first + 0) (slots_of (made_in cs))) (sym same)
     (subst (λ n. AreFrom n (slots_of (made_in (calls_in calls)))) zero_is numbers)))
@@ -162,47 +163,47 @@ begun_slot call e slot command k on place is begins makes =
     ap (λ (o : Option (ℕ × Kind)). option_map_or (λ (m : ℕ × Kind). m.0) o 0) same
 
 -- where some object stands that an earlier call has made: on an encoder itself
-stand_of_encoder : (serial : ℕ) (others : List Object) (first : ℕ) (before : List PlayedCall) (on : ℕ) (k : Kind) → has_recorder k ≡ true → let sight = sight_with serial others first before in
+stand_of_encoder : (setup : Setup) (others : List Object) (first : ℕ) (before : List PlayedCall) (on : ℕ) (k : Kind) → has_recorder k ≡ true → let sight = sight_with setup others first before in
     Stands sight.first sight.own (calls_in before) → first ≤ on → Contains (made_in (calls_in before)) (on, k) → first +
     (stand_seen sight on).encoder ≡ on
-stand_of_encoder serial others first before on k p stands from own =
-    let sight : Sight = sight_with serial others first before in
-    let same : sight.first ≡ first = first_after serial (map with_answer before) (begin_at others first) in
+stand_of_encoder setup others first before on k p stands from own =
+    let sight : Sight = sight_with setup others first before in
+    let same : sight.first ≡ first = first_after setup (map with_answer before) (begin_at others first) in
     let found = stands.encoders on k p own in
     let stand_is : (stand_seen sight on).encoder ≡ on - sight.first
     = ap (λ (s : Stand). s.encoder) (stand_encoder sight.own (on - sight.first) found.recorder found.is) in
     omega (arith, stand_is, same, from)
 
 -- or on a pass of the encoder on which that was begun
-record BegunAt (serial : ℕ) (others : List Object) (first : ℕ) (front : List PlayedCall) (call : PlayedCall) (e : ℕ) : Type 0 where
+record BegunAt (setup : Setup) (others : List Object) (first : ℕ) (front : List PlayedCall) (call : PlayedCall) (e : ℕ) : Type 0 where
   number : ℕ
-  is : slice_get (after_call serial (sight_with serial others first front) (with_answer call)).own (length (sight_with serial others first front).own)
-      ≡ Some (object.Pass (place_in (sight_with serial others first front) e) number)
+  is : slice_get (after_call setup (sight_with setup others first front) (with_answer call)).own (length (sight_with setup others first front).own)
+      ≡ Some (object.Pass (place_in (sight_with setup others first front) e) number)
 
-begun_at : (serial : ℕ) (others : List Object) (first : ℕ) (front : List PlayedCall) (call : PlayedCall) (visible : Slots) (e slot : ℕ)
+begun_at : (setup : Setup) (others : List Object) (first : ℕ) (front : List PlayedCall) (call : PlayedCall) (visible : Slots) (e slot : ℕ)
     (command : CommandOf ℕ) (k : Kind) → call.0 ≡ Record e command (Some slot)
     → kind_begun command ≡ Some k → CallIsBound visible (made_in (calls_in front)) call.0
-    → Stands (sight_with serial others first front).first (sight_with serial others first front).own (calls_in front)
-    → BegunAt serial others first front call e
-begun_at serial others first front call visible e slot command k is begins bound stands =
-    let sight : Sight = sight_with serial others first front in
+    → Stands (sight_with setup others first front).first (sight_with setup others first front).own (calls_in front)
+    → BegunAt setup others first front call e
+begun_at setup others first front call visible e slot command k is begins bound stands =
+    let sight : Sight = sight_with setup others first front in
     let there : CallIsBound visible (made_in (calls_in front)) (Record e command (Some slot))
     = subst (λ (c : BoundCall). CallIsBound visible (made_in (calls_in front)) c) is bound in
     let holder = begun_on sight.first sight.own visible (calls_in front) e command (Some slot) stands there (place_of_begin command k begins) in
-    let new = pass_begun serial sight e slot command (with_answer call).1 holder.recorder k holder.is begins in
+    let new = pass_begun setup sight e slot command (with_answer call).1 holder.recorder k holder.is begins in
     record {
       number = holder.recorder.passes;
-      is = subst (λ (c : BoundCall). slice_get (after_call serial sight (c, (with_answer call).1)).own (length sight.own) ≡ Some
+      is = subst (λ (c : BoundCall). slice_get (after_call setup sight (c, (with_answer call).1)).own (length sight.own) ≡ Some
           (object.Pass (place_in sight e) holder.recorder.passes)) (sym is) new.is;
     }
 
-pub encoder_is : (serial : ℕ) (others : List Object) (first : ℕ) (visible : Slots) (before : List PlayedCall) (on : ℕ) (command : CommandOf ℕ)
+pub encoder_is : (setup : Setup) (others : List Object) (first : ℕ) (visible : Slots) (before : List PlayedCall) (on : ℕ) (command : CommandOf ℕ)
     (made : Option ℕ) (after : List BoundCall)
     → LaneIsBound visible [] (calls_in before ++ Record on command made ∷ after) → AreFrom first (slots_of (made_in (calls_in before)))
     → All IsAnsweredCall (map with_answer before)
-    → first + (stand_seen (sight_with serial others first before) on).encoder ≡ encoder_of (calls_in before) on
-encoder_is serial others first visible before on command made after bound numbers answered =
-    let sight : Sight = sight_with serial others first before in
+    → first + (stand_seen (sight_with setup others first before) on).encoder ≡ encoder_of (calls_in before) on
+encoder_is setup others first visible before on command made after bound numbers answered =
+    let sight : Sight = sight_with setup others first before in
     let ours : Slots = made_in (calls_in before) in
     let here = call_in visible [] (calls_in before) (Record on command made) after bound in
     let from : first ≤ on = at_least first ours on here.place numbers here.own in
@@ -219,11 +220,11 @@ encoder_is serial others first visible before on command made after bound number
     = ap (λ (cs : List BoundCall). encoder_of cs on) calls ∙ none_begun (calls_in front) (call.0 ∷ calls_in back) on once.before in
     elim (stands_on command here.place here.takes) [
       | inl encoder ↦
-          let stands = lane_stands serial others first visible before (Record on command made ∷ after) bound numbers answered in
+          let stands = lane_stands setup others first visible before (Record on command made ∷ after) bound numbers answered in
           let none : begun_as on call.0 ≡ None = encoder_not_begun call.0 on here.place encoder maker.makes in
           let last : encoder_of (calls_in back) on ≡ on = ap (λ (cs : List BoundCall). encoder_of cs on) (sym (append-nil (calls_in back))) ∙ none_begun
           (calls_in back) [] on once.after in
-          stand_of_encoder serial others first before on here.place encoder stands from here.own ∙ sym
+          stand_of_encoder setup others first before on here.place encoder stands from here.own ∙ sym
           (found ∙ (ap (λ (o : Option ℕ). unwrap_or o (encoder_of (calls_in back) on)) none ∙ last))
       | inr pass ↦
           let begin = pass_made call.0 on here.place pass maker.makes in
@@ -239,22 +240,22 @@ encoder_is serial others first visible before on command made after bound number
           let all_answered : All IsAnsweredCall (map with_answer (front ++ call ∷ back))
           = subst (λ (cs : List PlayedCall). All IsAnsweredCall (map with_answer cs)) split.2 answered in
           let front_answered : All IsAnsweredCall (map with_answer front) = all_before IsAnsweredCall front (call ∷ back) all_answered in
-          let stands = lane_stands serial others first visible front
+          let stands = lane_stands setup others first visible front
           (call.0 ∷ (calls_in back ++ Record on command made ∷ after)) lane once.numbers front_answered in
           let bound_there = call_in visible [] (calls_in front) call.0 (calls_in back ++ Record on command made ∷ after) lane in
-          let new = begun_at serial others first front call
+          let new = begun_at setup others first front call
           (visible ++ made_in (calls_in front)) e begin.slot begin.command begin.kind begin.is begin.kind_is bound_there stands in
-          let old : Sight = sight_with serial others first front in
-          let old_first : old.first ≡ first = first_after serial (map with_answer front) (begin_at others first) in
-          let first_is : sight.first ≡ first = first_after serial (map with_answer before) (begin_at others first) in
-          let count = lane_length serial front (begin_at others first) front_answered in
+          let old : Sight = sight_with setup others first front in
+          let old_first : old.first ≡ first = first_after setup (map with_answer front) (begin_at others first) in
+          let first_is : sight.first ≡ first = first_after setup (map with_answer before) (begin_at others first) in
+          let count = lane_length setup front (begin_at others first) front_answered in
           let slot_here : on ≡ first + length (made_in (calls_in front)) = once.here in
           let place : length old.own ≡ on - sight.first = omega (arith, count, first_is, slot_here) in
-          let whole : sight ≡ after_calls serial (after_call serial old (with_answer call)) (map with_answer back)
-          = ap (λ (cs : List PlayedCall). sight_with serial others first cs) split.2 ∙ after_split serial front call back (begin_at others first) in
+          let whole : sight ≡ after_calls setup (after_call setup old (with_answer call)) (map with_answer back)
+          = ap (λ (cs : List PlayedCall). sight_with setup others first cs) split.2 ∙ after_split setup front call back (begin_at others first) in
           let there : slice_get sight.own (on - sight.first) ≡ Some (object.Pass (place_in old e) new.number)
           = subst (λ n. slice_get sight.own n ≡ Some (object.Pass (place_in old e) new.number)) place
-          (ap (λ (s : Sight). slice_get s.own (length old.own)) whole ∙ pass_stays serial (map with_answer back) (after_call serial old (with_answer call))
+          (ap (λ (s : Sight). slice_get s.own (length old.own)) whole ∙ pass_stays setup (map with_answer back) (after_call setup old (with_answer call))
           (length old.own) (place_in old e) new.number new.is) in
           let stand_is : (stand_seen sight on).encoder ≡ e - old.first
           = ap (λ (s : Stand). s.encoder) (stand_pass sight.own (on - sight.first) (place_in old e) new.number there) in

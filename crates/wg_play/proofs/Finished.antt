@@ -22,6 +22,7 @@ use Rattle.wg_names.specs.Uses.{made_of}
 use Rattle.wg_names.specs.Bound.{made_by, made_in, CallIsBound, LaneIsBound}
 use Rattle.wg_play.specs.declared.objects.Object.{Object}
 use Rattle.wg_play.specs.declared.objects.Object.TheVariants as object
+use Rattle.wg_history.specs.declared.events.Setup.{Setup}
 use Rattle.wg_calls.specs.Encoders.{ended_by}
 use Rattle.wg_play.specs.Objects.{recorder_at}
 use Rattle.wg_play.specs.Sights.{Sight, place_in}
@@ -96,42 +97,42 @@ finished_more before call n = list_any-append (finishes n) before (call ∷ []) 
 
 -- ---- one more call
 
-encoder_after : (serial : ℕ) (sight : Sight) (before : List BoundCall) (call : BoundCall) (answer : Answer) (place : ℕ) (k : Kind) → Owns sight.first call → IsEncoder sight.first sight.own before place k
-    → IsEncoder sight.first (after_call serial sight (call, answer)).own (before ++ call ∷ []) place k
-encoder_after serial sight before call answer place k owns was =
-    let kept = call_keeps serial sight call answer place was.recorder owns was.is in
+encoder_after : (setup : Setup) (sight : Sight) (before : List BoundCall) (call : BoundCall) (answer : Answer) (place : ℕ) (k : Kind) → Owns sight.first call → IsEncoder sight.first sight.own before place k
+    → IsEncoder sight.first (after_call setup sight (call, answer)).own (before ++ call ∷ []) place k
+encoder_after setup sight before call answer place k owns was =
+    let kept = call_keeps setup sight call answer place was.recorder owns was.is in
     record {
       recorder = kept.recorder;
       is = kept.is;
-      stands = call_stands serial sight call answer place k was.stands;
+      stands = call_stands setup sight call answer place k was.stands;
       taken = kept.taken ∙ (ap (λ b. b || finishes (sight.first + place) call) was.taken ∙ sym (finished_more before call (sight.first + place)));
     }
 
 more_begun : (number old new : ℕ) → nat_lt number old ≡ true → old ≤ new → nat_lt number new ≡ true
 more_begun number old new begun more = grind (arith, nat_tests, begun, more)
 
-pass_after : (serial : ℕ) (sight : Sight) (before : List BoundCall) (call : BoundCall) (answer : Answer) (place : ℕ) → Owns sight.first call → IsPass sight.first sight.own before place
-    → IsPass sight.first (after_call serial sight (call, answer)).own (before ++ call ∷ []) place
+pass_after : (setup : Setup) (sight : Sight) (before : List BoundCall) (call : BoundCall) (answer : Answer) (place : ℕ) → Owns sight.first call → IsPass sight.first sight.own before place
+    → IsPass sight.first (after_call setup sight (call, answer)).own (before ++ call ∷ []) place
 unfolding encoder_after
-pass_after serial sight before call answer place owns was =
-    let kept = call_keeps serial sight call answer was.encoder was.holder.recorder owns was.holder.is in
+pass_after setup sight before call answer place owns was =
+    let kept = call_keeps setup sight call answer was.encoder was.holder.recorder owns was.holder.is in
     record {
       encoder = was.encoder;
       number = was.number;
-      is = call_leaves serial sight call answer place was.encoder was.number was.is;
-      holder = encoder_after serial sight before call answer was.encoder kind.Encoder owns was.holder;
+      is = call_leaves setup sight call answer place was.encoder was.number was.is;
+      holder = encoder_after setup sight before call answer was.encoder kind.Encoder owns was.holder;
       begun = more_begun was.number was.holder.recorder.passes kept.recorder.passes was.begun kept.passes;
     }
 
 -- no call has finished the encoder that is made
-encoder_first : (serial : ℕ) (sight : Sight) (made : Slots) (before : List BoundCall) (call : BoundCall) (answer : Answer) (slot : ℕ) (k : Kind) → has_recorder k ≡ true → Stands sight.first sight.own before
+encoder_first : (setup : Setup) (sight : Sight) (made : Slots) (before : List BoundCall) (call : BoundCall) (answer : Answer) (slot : ℕ) (k : Kind) → has_recorder k ≡ true → Stands sight.first sight.own before
     → CallIsBound made (made_in before) call → IsAnswerTo call answer → slot ≡ sight.first + length sight.own → made_of call ≡ Some (slot, k)
-    → IsEncoder sight.first (after_call serial sight (call, answer)).own (before ++ call ∷ []) (slot - sight.first) k
-encoder_first serial sight made before call answer slot k p was bound answered here makes =
-    let own : List Object = (after_call serial sight (call, answer)).own in
+    → IsEncoder sight.first (after_call setup sight (call, answer)).own (before ++ call ∷ []) (slot - sight.first) k
+encoder_first setup sight made before call answer slot k p was bound answered here makes =
+    let own : List Object = (after_call setup sight (call, answer)).own in
     let fit : MakesAs sight call = makes_as sight made (made_in before) call (λ n x q there. (was.encoders n x q there).stands)
     (λ asked name is. absurd (canvas_no_encoder asked name slot k p (sym (ap (λ (c : BoundCall). made_of c) is) ∙ makes))) bound in
-    let fresh = encoder_made serial sight call answer slot k p answered fit makes in
+    let fresh = encoder_made setup sight call answer slot k p answered fit makes in
     let place : length sight.own ≡ slot - sight.first = omega (arith, here) in
     let again : sight.first + (slot - sight.first) ≡ slot = omega (arith, here) in
     let from : sight.first + length sight.own ≤ slot = omega (arith, here) in
@@ -140,16 +141,16 @@ encoder_first serial sight made before call answer slot k p was bound answered h
     record {
       recorder = fresh.recorder;
       is = ap (λ n. recorder_at own n) (sym place) ∙ fresh.is;
-      stands = subst (λ n. StandsAt own n k) place (call_makes serial sight call answer slot k answered fit makes);
+      stands = subst (λ n. StandsAt own n k) place (call_makes setup sight call answer slot k answered fit makes);
       taken = fresh.unended ∙ sym (ap (λ n. list_any (finishes n) (before ++ call ∷ [])) again ∙ unborn);
     }
 
-pass_on : (serial : ℕ) (sight : Sight) (before : List BoundCall) (on made slot : ℕ) (command : CommandOf ℕ) (answer : Answer) (k : Kind) → IsEncoder sight.first sight.own before (place_in sight on) kind.Encoder
+pass_on : (setup : Setup) (sight : Sight) (before : List BoundCall) (on made slot : ℕ) (command : CommandOf ℕ) (answer : Answer) (k : Kind) → IsEncoder sight.first sight.own before (place_in sight on) kind.Encoder
     → slot ≡ sight.first + length sight.own → kind_begun command ≡ Some k
-    → IsPass sight.first (after_call serial sight (Record on command (Some made), answer)).own (before ++ Record on command (Some made) ∷ []) (slot - sight.first)
-pass_on serial sight before on made slot command answer k holder here begins =
-    let own : List Object = (after_call serial sight (Record on command (Some made), answer)).own in
-    let new = pass_begun serial sight on made command answer holder.recorder k holder.is begins in
+    → IsPass sight.first (after_call setup sight (Record on command (Some made), answer)).own (before ++ Record on command (Some made) ∷ []) (slot - sight.first)
+pass_on setup sight before on made slot command answer k holder here begins =
+    let own : List Object = (after_call setup sight (Record on command (Some made), answer)).own in
+    let new = pass_begun setup sight on made command answer holder.recorder k holder.is begins in
     let place : length sight.own ≡ slot - sight.first = omega (arith, here) in
     let encoder : ℕ = place_in sight on in
     record {
@@ -159,7 +160,7 @@ pass_on serial sight before on made slot command answer k holder here begins =
       holder = record {
         recorder = new.recorder;
         is = new.recorder_is;
-        stands = call_stands serial sight (Record on command (Some made)) answer encoder kind.Encoder holder.stands;
+        stands = call_stands setup sight (Record on command (Some made)) answer encoder kind.Encoder holder.stands;
         taken = new.taken ∙ (holder.taken ∙ sym (finished_more before (Record on command (Some made)) (sight.first + encoder) ∙ or_false (list_any (finishes (sight.first + encoder)) before)));
       };
       begun = new.begun;
@@ -171,14 +172,14 @@ pub begun_on : (first : ℕ) (own : List Object) (made : Slots) (before : List B
 begun_on first own made before on command slot was bound place =
     was.encoders on kind.Encoder refl (subst (λ k. Contains (made_in before) (on, k)) (is_encoder bound.place (ap (λ w. admits w bound.place) (sym place) ∙ bound.takes)) bound.own)
 
-pass_first : (serial : ℕ) (sight : Sight) (made : Slots) (before : List BoundCall) (call : BoundCall) (answer : Answer) (slot : ℕ) (k : Kind) → is_pass k ≡ true → Stands sight.first sight.own before
+pass_first : (setup : Setup) (sight : Sight) (made : Slots) (before : List BoundCall) (call : BoundCall) (answer : Answer) (slot : ℕ) (k : Kind) → is_pass k ≡ true → Stands sight.first sight.own before
     → CallIsBound made (made_in before) call → slot ≡ sight.first + length sight.own → made_of call ≡ Some (slot, k)
-    → IsPass sight.first (after_call serial sight (call, answer)).own (before ++ call ∷ []) (slot - sight.first)
-pass_first serial sight made before call answer slot k p was bound here makes =
+    → IsPass sight.first (after_call setup sight (call, answer)).own (before ++ call ∷ []) (slot - sight.first)
+pass_first setup sight made before call answer slot k p was bound here makes =
     let begins = pass_made call slot k p makes in
     let holder = begun_on sight.first sight.own made before begins.on begins.command (Some begins.slot) was (subst (λ c. CallIsBound made (made_in before) c) begins.is bound) (place_of_begin begins.command begins.kind begins.kind_is) in
-    subst (λ c. IsPass sight.first (after_call serial sight (c, answer)).own (before ++ c ∷ []) (slot - sight.first)) (sym begins.is)
-    (pass_on serial sight before begins.on begins.slot slot begins.command answer begins.kind holder here begins.kind_is)
+    subst (λ c. IsPass sight.first (after_call setup sight (c, answer)).own (before ++ c ∷ []) (slot - sight.first)) (sym begins.is)
+    (pass_on setup sight before begins.on begins.slot slot begins.command answer begins.kind holder here begins.kind_is)
 
 below_more : (made : Slots) (found : Option (ℕ × Kind)) (old new : ℕ) → All (IsBelow old) made → new ≡ old + length (option_to_list found) → ((m : ℕ × Kind) → found ≡ Some m → m.0 ≡ old)
     → All (IsBelow new) (made ++ option_to_list found)
@@ -196,12 +197,12 @@ above_more [] (Some x) first old from above here = let e : x.0 ≡ old = here x 
 above_more (x ∷ made) found first old from above here =
     All-cons (IsAbove first) x (made ++ option_to_list found) (All-head (IsAbove first) x made above) (above_more made found first old from (All-tail (IsAbove first) x made above) here)
 
-one_more : (serial : ℕ) (sight : Sight) (made : Slots) (before : List BoundCall) (call : BoundCall) (answer : Answer) → Stands sight.first sight.own before → CallIsBound made (made_in before) call → IsAnswerTo call answer
-    → ((m : ℕ × Kind) → made_of call ≡ Some m → m.0 ≡ sight.first + length sight.own) → Stands sight.first (after_call serial sight (call, answer)).own (before ++ call ∷ [])
-one_more serial sight made before call answer was bound answered here =
-    let own : List Object = (after_call serial sight (call, answer)).own in
+one_more : (setup : Setup) (sight : Sight) (made : Slots) (before : List BoundCall) (call : BoundCall) (answer : Answer) → Stands sight.first sight.own before → CallIsBound made (made_in before) call → IsAnswerTo call answer
+    → ((m : ℕ × Kind) → made_of call ≡ Some m → m.0 ≡ sight.first + length sight.own) → Stands sight.first (after_call setup sight (call, answer)).own (before ++ call ∷ [])
+one_more setup sight made before call answer was bound answered here =
+    let own : List Object = (after_call setup sight (call, answer)).own in
     let old : ℕ = sight.first + length sight.own in
-    let length_is : length own ≡ length sight.own + length (made_by call) = call_length serial sight call answer answered in
+    let length_is : length own ≡ length sight.own + length (made_by call) = call_length setup sight call answer answered in
     let grown : sight.first + length own ≡ old + length (made_by call) = omega (arith, length_is) in
     let from : sight.first ≤ old = omega arith in
     let owns = call_owns sight.first made (made_in before) call was.above bound in
@@ -213,34 +214,34 @@ one_more serial sight made before call answer was bound answered here =
           let less : old ≤ n = omega (arith, there, grown) in
           finished_more before call n ∙ ap₂ (λ a b. a || b) (was.unborn n less) (call_unborn made (made_in before) old n call was.below less bound));
       encoders = λ slot k p there. elim (Contains-append_cases (made_in before) (made_by call) (slot, k) (subst (λ ms. Contains ms (slot, k)) new_made there)) [
-        | inl earlier ↦ encoder_after serial sight before call answer (slot - sight.first) k owns (was.encoders slot k p earlier)
+        | inl earlier ↦ encoder_after setup sight before call answer (slot - sight.first) k owns (was.encoders slot k p earlier)
         | inr new ↦ let makes : made_of call ≡ Some (slot, k) = only (made_of call) (slot, k) new in
-            encoder_first serial sight made before call answer slot k p was bound answered (here (slot, k) makes) makes
+            encoder_first setup sight made before call answer slot k p was bound answered (here (slot, k) makes) makes
       ];
       passes = λ slot k p there. elim (Contains-append_cases (made_in before) (made_by call) (slot, k) (subst (λ ms. Contains ms (slot, k)) new_made there)) [
-        | inl earlier ↦ pass_after serial sight before call answer (slot - sight.first) owns (was.passes slot k p earlier)
+        | inl earlier ↦ pass_after setup sight before call answer (slot - sight.first) owns (was.passes slot k p earlier)
         | inr new ↦ let makes : made_of call ≡ Some (slot, k) = only (made_of call) (slot, k) new in
-            pass_first serial sight made before call answer slot k p was bound (here (slot, k) makes) makes
+            pass_first setup sight made before call answer slot k p was bound (here (slot, k) makes) makes
       ];
     }
 
 -- ---- calls one after another
 
-pub all_after : (serial : ℕ) (made : Slots) (calls : List Answered) (before : List BoundCall) (sight : Sight) → Stands sight.first sight.own before → All IsAnsweredCall calls
+pub all_after : (setup : Setup) (made : Slots) (calls : List Answered) (before : List BoundCall) (sight : Sight) → Stands sight.first sight.own before → All IsAnsweredCall calls
     → LaneIsBound made (made_in before) (map (λ call. call.0) calls) → AreFrom (sight.first + length sight.own) (slots_of (made_in (map (λ call. call.0) calls)))
-    → Stands (after_calls serial sight calls).first (after_calls serial sight calls).own (before ++ map (λ call. call.0) calls)
-all_after serial made [] before sight was answered bound from = subst (λ cs. Stands sight.first sight.own cs) (sym (append-nil before)) was
-all_after serial made (call ∷ calls) before sight was answered bound from =
-    let after : Sight = after_call serial sight call in
+    → Stands (after_calls setup sight calls).first (after_calls setup sight calls).own (before ++ map (λ call. call.0) calls)
+all_after setup made [] before sight was answered bound from = subst (λ cs. Stands sight.first sight.own cs) (sym (append-nil before)) was
+all_after setup made (call ∷ calls) before sight was answered bound from =
+    let after : Sight = after_call setup sight call in
     let here : IsAnsweredCall call = All-head IsAnsweredCall call calls answered in
     let rest : List BoundCall = map (λ (c : Answered). c.0) calls in
-    let first_is : after.first ≡ sight.first = same_first serial sight call.0 call.1 in
-    let length_is : length after.own ≡ length sight.own + length (made_by call.0) = call_length serial sight call.0 call.1 here in
+    let first_is : after.first ≡ sight.first = same_first setup sight call.0 call.1 in
+    let length_is : length after.own ≡ length sight.own + length (made_by call.0) = call_length setup sight call.0 call.1 here in
     let grown : (sight.first + length sight.own) + length (made_by call.0) ≡ after.first + length after.own = omega (arith, first_is, length_is) in
-    subst (λ cs. Stands (after_calls serial after calls).first (after_calls serial after calls).own cs) (append_assoc before (call.0 ∷ []) rest)
-    (all_after serial (made ++ made_by call.0) calls (before ++ call.0 ∷ []) after
+    subst (λ cs. Stands (after_calls setup after calls).first (after_calls setup after calls).own cs) (append_assoc before (call.0 ∷ []) rest)
+    (all_after setup (made ++ made_by call.0) calls (before ++ call.0 ∷ []) after
     (subst (λ n. Stands n after.own (before ++ call.0 ∷ [])) (sym first_is)
-    (one_more serial sight made before call.0 call.1 was bound.0 here (first_from (sight.first + length sight.own) (made_of call.0) (made_in rest) from)))
+    (one_more setup sight made before call.0 call.1 was bound.0 here (first_from (sight.first + length sight.own) (made_of call.0) (made_in rest) from)))
     (All-tail IsAnsweredCall call calls answered)
     (subst (λ ms. LaneIsBound (made ++ made_by call.0) ms rest) (sym (made_more before call.0)) bound.1)
     (subst (λ n. AreFrom n (slots_of (made_in rest))) grown (from_back (sight.first + length sight.own) (made_by call.0) (made_in rest) from)))

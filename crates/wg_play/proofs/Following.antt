@@ -7,6 +7,7 @@ use Rattle.std.proofs.lemmas.List.{length-append}
 use Rattle.wg_types.specs.Handles.{HandleValue}
 use Rattle.wg_types.specs.Kinds.{kind_of}
 use Rattle.wg_types.specs.Requests.{kind_made, map_refs as map_asked}
+use Rattle.wg_types.specs.declared.limits.Limits.{Limits}
 use Rattle.wg_types.specs.declared.canvases.CanvasOf.{CanvasOf}
 use Rattle.wg_types.specs.declared.commands.CommandOf.{CommandOf}
 use Rattle.wg_types.specs.declared.handles.Info.{Info}
@@ -17,6 +18,7 @@ use Rattle.wg_types.specs.declared.requests.RequestOf.TheVariants.{CreateBuffer,
 use Rattle.wg_types.specs.declared.wanted.Kind.{Kind}
 use Rattle.wg_types.specs.declared.handles.ObjRef.{ObjRef}
 use Rattle.wg_encoder.specs.Recorders.{RecorderValue}
+use Rattle.wg_history.specs.declared.events.Setup.{Setup}
 use Rattle.wg_calls.specs.Calls.{info_asked, known_of_finish, handle_of}
 use Rattle.wg_script.specs.CallOf.{BoundCall}
 use Rattle.wg_script.specs.declared.calls.CallOf.TheVariants.{Record, Ask, Canvas}
@@ -38,53 +40,53 @@ use Rattle.wg_play.proofs.Ended.{is_finish}
 abbrev pub ended_on : Sight → Option ℕ → List Object
 ended_on sight ended = option_map_or (λ encoder. taken_on sight.own (place_in sight encoder)) ended sight.own
 
-abbrev pub with_kept : List Object → Option HandleValue → List Object
-with_kept objects None = objects
-with_kept objects (Some handle) = objects ++ object_of handle ∷ []
+abbrev pub with_kept : Limits → List Object → Option HandleValue → List Object
+with_kept limits objects None = objects
+with_kept limits objects (Some handle) = objects ++ object_of limits handle ∷ []
 
 -- a recording call changes its recorder alone and makes its pass, late or not
-pub after_record : (serial : ℕ) (sight : Sight) (on : ℕ) (command : CommandOf ℕ) (made : Option ℕ) (answer : Answer)
-    → after_call serial sight (Record on command made, answer) ≡ noted_on sight (stand_seen sight on) (command_seen sight command) made
-after_record serial sight on command made answer = elim (cases_Bool (is_late_on sight.own (stand_seen sight on))) [ inl late ↦ rw late refl | inr kept ↦ rw kept refl ]
+pub after_record : (setup : Setup) (sight : Sight) (on : ℕ) (command : CommandOf ℕ) (made : Option ℕ) (answer : Answer)
+    → after_call setup sight (Record on command made, answer) ≡ noted_on sight (stand_seen sight on) (command_seen sight command) made
+after_record setup sight on command made answer = elim (cases_Bool (is_late_on sight.own (stand_seen sight on))) [ inl late ↦ rw late refl | inr kept ↦ rw kept refl ]
 
 taken_own : (sight : Sight) (ended : Option ℕ) → option_map_or (λ encoder. record sight { own = taken_on sight.own (place_in sight encoder) }) ended sight ≡ record sight { own = ended_on sight ended }
 taken_own sight None = refl
 taken_own sight (Some encoder) = refl
 
-handle_own : (sight : Sight) (own : List Object) (handle : Option HandleValue) → with_handle (record sight { own = own }) handle ≡ record sight { own = with_kept own handle }
-handle_own sight own None = refl
-handle_own sight own (Some handle) = refl
+handle_own : (limits : Limits) (sight : Sight) (own : List Object) (handle : Option HandleValue) → with_handle limits (record sight { own = own }) handle ≡ record sight { own = with_kept limits own handle }
+handle_own limits sight own None = refl
+handle_own limits sight own (Some handle) = refl
 
-pub after_ask : (serial : ℕ) (sight : Sight) (request : RequestOf ℕ) (made : Option ℕ) (answer : Answer)
-    → after_call serial sight (Ask request made, answer) ≡ record sight { own = with_kept (ended_on sight (ended_by request)) (handle_kept serial sight request made answer) }
-after_ask serial sight request made answer =
-    ap (λ s. with_handle s (handle_kept serial sight request made answer)) (taken_own sight (ended_by request))
-    ∙ handle_own sight (ended_on sight (ended_by request)) (handle_kept serial sight request made answer)
+pub after_ask : (setup : Setup) (sight : Sight) (request : RequestOf ℕ) (made : Option ℕ) (answer : Answer)
+    → after_call setup sight (Ask request made, answer) ≡ record sight { own = with_kept setup.limits (ended_on sight (ended_by request)) (handle_kept setup sight request made answer) }
+after_ask setup sight request made answer =
+    ap (λ s. with_handle setup.limits s (handle_kept setup sight request made answer)) (taken_own sight (ended_by request))
+    ∙ handle_own setup.limits sight (ended_on sight (ended_by request)) (handle_kept setup sight request made answer)
 
 -- a call of a canvas changes its canvas alone and makes its name, kept or answered
 
-drawn_by : (serial : ℕ) (sight : Sight) (call : CanvasOf ℕ) (made : Option ℕ) (answer : Answer) (asked : Option (RequestOf HandleValue))
-    → unwrap_or (option_map_or (λ (request : RequestOf HandleValue). None) asked (Some (drawn sight call made None))) (drawn sight call made (given_by serial asked answer))
-    ≡ drawn sight call made (given_by serial asked answer)
-drawn_by serial sight call made answer None = refl
-drawn_by serial sight call made answer (Some request) = refl
+drawn_by : (setup : Setup) (sight : Sight) (call : CanvasOf ℕ) (made : Option ℕ) (answer : Answer) (asked : Option (RequestOf HandleValue))
+    → unwrap_or (option_map_or (λ (request : RequestOf HandleValue). None) asked (Some (drawn sight call made None))) (drawn sight call made (given_by setup asked answer))
+    ≡ drawn sight call made (given_by setup asked answer)
+drawn_by setup sight call made answer None = refl
+drawn_by setup sight call made answer (Some request) = refl
 
-pub after_canvas : (serial : ℕ) (sight : Sight) (call : CanvasOf ℕ) (made : Option ℕ) (answer : Answer)
-    → after_call serial sight (Canvas call made, answer) ≡ drawn sight call made (given_by serial (canvas_asks sight call) answer)
-after_canvas serial sight call made answer = drawn_by serial sight call made answer (canvas_asks sight call)
+pub after_canvas : (setup : Setup) (sight : Sight) (call : CanvasOf ℕ) (made : Option ℕ) (answer : Answer)
+    → after_call setup sight (Canvas call made, answer) ≡ drawn sight call made (given_by setup (canvas_asks sight call) answer)
+after_canvas setup sight call made answer = drawn_by setup sight call made answer (canvas_asks sight call)
 
 -- what others have made, and where the lane's own slots begin, stay
-pub same_first : (serial : ℕ) (sight : Sight) (call : BoundCall) (answer : Answer) → (after_call serial sight (call, answer)).first ≡ sight.first
-same_first serial sight (Record on command made) answer = ap (λ (s : Sight). s.first) (after_record serial sight on command made answer)
-same_first serial sight (Ask request made) answer = ap (λ (s : Sight). s.first) (after_ask serial sight request made answer)
-same_first serial sight (Canvas call made) answer =
-    ap (λ (s : Sight). s.first) (after_canvas serial sight call made answer) ∙ drawn_first sight call made (given_by serial (canvas_asks sight call) answer)
+pub same_first : (setup : Setup) (sight : Sight) (call : BoundCall) (answer : Answer) → (after_call setup sight (call, answer)).first ≡ sight.first
+same_first setup sight (Record on command made) answer = ap (λ (s : Sight). s.first) (after_record setup sight on command made answer)
+same_first setup sight (Ask request made) answer = ap (λ (s : Sight). s.first) (after_ask setup sight request made answer)
+same_first setup sight (Canvas call made) answer =
+    ap (λ (s : Sight). s.first) (after_canvas setup sight call made answer) ∙ drawn_first sight call made (given_by setup (canvas_asks sight call) answer)
 
-pub same_others : (serial : ℕ) (sight : Sight) (call : BoundCall) (answer : Answer) → (after_call serial sight (call, answer)).others ≡ sight.others
-same_others serial sight (Record on command made) answer = ap (λ (s : Sight). s.others) (after_record serial sight on command made answer)
-same_others serial sight (Ask request made) answer = ap (λ (s : Sight). s.others) (after_ask serial sight request made answer)
-same_others serial sight (Canvas call made) answer =
-    ap (λ (s : Sight). s.others) (after_canvas serial sight call made answer) ∙ drawn_others sight call made (given_by serial (canvas_asks sight call) answer)
+pub same_others : (setup : Setup) (sight : Sight) (call : BoundCall) (answer : Answer) → (after_call setup sight (call, answer)).others ≡ sight.others
+same_others setup sight (Record on command made) answer = ap (λ (s : Sight). s.others) (after_record setup sight on command made answer)
+same_others setup sight (Ask request made) answer = ap (λ (s : Sight). s.others) (after_ask setup sight request made answer)
+same_others setup sight (Canvas call made) answer =
+    ap (λ (s : Sight). s.others) (after_canvas setup sight call made answer) ∙ drawn_others sight call made (given_by setup (canvas_asks sight call) answer)
 
 -- ---- the object of a call of the device
 
@@ -154,22 +156,22 @@ FitsSlot None (Some made) = ⊥
 FitsSlot (Some handle) None = ⊥
 FitsSlot (Some handle) (Some made) = Unit {0}
 
-fits_known : (serial : ℕ) (known : Option Info) (answer : Answer) (made : Option ℕ) (found : Option Kind) → is_some known ≡ is_some found → (is_some (made_as made found) ≡ true → is_made answer ≡ true)
-    → FitsSlot (option_and_then (λ slot. handle_known serial known answer) made) (made_as made found)
-fits_known serial known answer None found e answered = tt
-fits_known serial None answer (Some slot) None e answered = tt
-fits_known serial None answer (Some slot) (Some k) e answered = absurd (cc (e))
-fits_known serial (Some x) answer (Some slot) None e answered = absurd (cc (e))
-fits_known serial (Some x) (Made number valid) (Some slot) (Some k) e answered = tt
-fits_known serial (Some x) (Queued op) (Some slot) (Some k) e answered = absurd (cc (answered refl))
-fits_known serial (Some x) Promised (Some slot) (Some k) e answered = absurd (cc (answered refl))
-fits_known serial (Some x) Plain (Some slot) (Some k) e answered = absurd (cc (answered refl))
-fits_known serial (Some x) BadCompletion (Some slot) (Some k) e answered = absurd (cc (answered refl))
+fits_known : (setup : Setup) (known : Option Info) (answer : Answer) (made : Option ℕ) (found : Option Kind) → is_some known ≡ is_some found → (is_some (made_as made found) ≡ true → is_made answer ≡ true)
+    → FitsSlot (option_and_then (λ slot. handle_known setup known answer) made) (made_as made found)
+fits_known setup known answer None found e answered = tt
+fits_known setup None answer (Some slot) None e answered = tt
+fits_known setup None answer (Some slot) (Some k) e answered = absurd (cc (e))
+fits_known setup (Some x) answer (Some slot) None e answered = absurd (cc (e))
+fits_known setup (Some x) (Made number valid) (Some slot) (Some k) e answered = tt
+fits_known setup (Some x) (Queued op) (Some slot) (Some k) e answered = absurd (cc (answered refl))
+fits_known setup (Some x) Promised (Some slot) (Some k) e answered = absurd (cc (answered refl))
+fits_known setup (Some x) Plain (Some slot) (Some k) e answered = absurd (cc (answered refl))
+fits_known setup (Some x) BadCompletion (Some slot) (Some k) e answered = absurd (cc (answered refl))
 
-pub handle_fits : (serial : ℕ) (sight : Sight) (request : RequestOf ℕ) (made : Option ℕ) (answer : Answer) → IsAnswerTo (Ask request made) answer
-    → FitsSlot (handle_kept serial sight request made answer) (made_of (Ask request made))
-handle_fits serial sight request made answer answered =
-    fits_known serial (info_sent sight request) answer made (kind_made request) (some_sent sight request) answered
+pub handle_fits : (setup : Setup) (sight : Sight) (request : RequestOf ℕ) (made : Option ℕ) (answer : Answer) → IsAnswerTo (Ask request made) answer
+    → FitsSlot (handle_kept setup sight request made answer) (made_of (Ask request made))
+handle_fits setup sight request made answer answered =
+    fits_known setup (info_sent sight request) answer made (kind_made request) (some_sent sight request) answered
 
 -- What is known of that which a call makes is of the kind that it makes, and a call of a canvas finds it.
 abbrev pub MakesAs : Sight → BoundCall → Type 0
@@ -181,32 +183,32 @@ pub same_kind : (slot on : ℕ) (found : Option Kind) (k : Kind) → made_as (So
 same_kind slot on None k e = absurd (cc)
 same_kind slot on (Some x) k e = let same : (slot, x) ≡ (on, k) = cc in ap (λ (m : ℕ × Kind). Some m.1) same
 
-info_of : (serial : ℕ) (known : Info) (answer : Answer) (handle : HandleValue) → handle_of serial known answer ≡ Some handle → known ≡ handle.info
-info_of serial known (Made number valid) handle e =
-    let new : HandleValue = record { reference = record { device = serial; number = number }; valid = valid; info = known } in
+info_of : (setup : Setup) (known : Info) (answer : Answer) (handle : HandleValue) → handle_of setup.serial known answer ≡ Some handle → known ≡ handle.info
+info_of setup known (Made number valid) handle e =
+    let new : HandleValue = record { reference = record { device = setup.serial; number = number }; valid = valid; info = known } in
     let same : new ≡ handle = cc (e) in
     ap (λ (h : HandleValue). h.info) same
-info_of serial known (Queued op) handle e = absurd (cc (e))
-info_of serial known Promised handle e = absurd (cc (e))
-info_of serial known Plain handle e = absurd (cc (e))
-info_of serial known BadCompletion handle e = absurd (cc (e))
+info_of setup known (Queued op) handle e = absurd (cc (e))
+info_of setup known Promised handle e = absurd (cc (e))
+info_of setup known Plain handle e = absurd (cc (e))
+info_of setup known BadCompletion handle e = absurd (cc (e))
 
-kind_known : (serial : ℕ) (known : Option Info) (answer : Answer) (made : Option ℕ) (found : Option Kind) (handle : HandleValue) (slot : ℕ) (k : Kind) → option_map kind_of known ≡ found
-    → option_and_then (λ n. handle_known serial known answer) made ≡ Some handle → made_as made found ≡ Some (slot, k) → kind_of handle.info ≡ k
-kind_known serial known answer None found handle slot k e is makes = absurd (cc (is))
-kind_known serial None answer (Some n) found handle slot k e is makes = absurd (cc (is))
-kind_known serial (Some x) answer (Some n) found handle slot k e is makes =
+kind_known : (setup : Setup) (known : Option Info) (answer : Answer) (made : Option ℕ) (found : Option Kind) (handle : HandleValue) (slot : ℕ) (k : Kind) → option_map kind_of known ≡ found
+    → option_and_then (λ n. handle_known setup known answer) made ≡ Some handle → made_as made found ≡ Some (slot, k) → kind_of handle.info ≡ k
+kind_known setup known answer None found handle slot k e is makes = absurd (cc (is))
+kind_known setup None answer (Some n) found handle slot k e is makes = absurd (cc (is))
+kind_known setup (Some x) answer (Some n) found handle slot k e is makes =
     let same : Some (kind_of x) ≡ Some k = e ∙ same_kind n slot found k makes in
     let kind : kind_of x ≡ k = cc (same) in
-    sym (ap kind_of (info_of serial x answer handle is)) ∙ kind
+    sym (ap kind_of (info_of setup x answer handle is)) ∙ kind
 
 -- and so it is of its handle
-pub handle_kind : (serial : ℕ) (sight : Sight) (request : RequestOf ℕ) (made : Option ℕ) (answer : Answer) (slot : ℕ) (k : Kind) → MakesAs sight (Ask request made) → made_of (Ask request made) ≡ Some (slot, k)
-    → (handle : HandleValue) → handle_kept serial sight request made answer ≡ Some handle → kind_of handle.info ≡ k
-handle_kind serial sight request made answer slot k fit makes handle is = kind_known serial (info_sent sight request) answer made (kind_made request) handle slot k fit is makes
+pub handle_kind : (setup : Setup) (sight : Sight) (request : RequestOf ℕ) (made : Option ℕ) (answer : Answer) (slot : ℕ) (k : Kind) → MakesAs sight (Ask request made) → made_of (Ask request made) ≡ Some (slot, k)
+    → (handle : HandleValue) → handle_kept setup sight request made answer ≡ Some handle → kind_of handle.info ≡ k
+handle_kind setup sight request made answer slot k fit makes handle is = kind_known setup (info_sent sight request) answer made (kind_made request) handle slot k fit is makes
 
-pub fits_length : (objects : List Object) (handle : Option HandleValue) (made : Option (ℕ × Kind)) → FitsSlot handle made → length (with_kept objects handle) ≡ length objects + length (option_to_list made)
-fits_length objects None None fits = omega arith
-fits_length objects None (Some made) fits = absurd fits
-fits_length objects (Some handle) None fits = absurd fits
-fits_length objects (Some handle) (Some made) fits = length-append objects (object_of handle ∷ [])
+pub fits_length : (limits : Limits) (objects : List Object) (handle : Option HandleValue) (made : Option (ℕ × Kind)) → FitsSlot handle made → length (with_kept limits objects handle) ≡ length objects + length (option_to_list made)
+fits_length limits objects None None fits = omega arith
+fits_length limits objects None (Some made) fits = absurd fits
+fits_length limits objects (Some handle) None fits = absurd fits
+fits_length limits objects (Some handle) (Some made) fits = length-append objects (object_of limits handle ∷ [])

@@ -14,6 +14,7 @@ use Rattle.wg_types.specs.Requests.{named as asked_of}
 use Rattle.wg_types.specs.declared.wanted.Kind.{Kind}
 use Rattle.wg_types.specs.declared.wanted.Kind.TheVariants as kinds
 use Rattle.wg_types.specs.declared.wanted.Wanted.{Wanted}
+use Rattle.wg_history.specs.declared.events.Setup.{Setup}
 use Rattle.wg_script.specs.CallOf.{BoundCall}
 use Rattle.wg_script.specs.declared.calls.CallOf.TheVariants.{Record, Ask, Canvas}
 use Rattle.wg_names.specs.Bound.{made_by, made_in, all_made, numbers_below, IsFound, CallIsBound, LaneIsBound, IsBound, CallIsSet, LaneIsSet}
@@ -67,9 +68,9 @@ earlier_from earlier rest count numbered =
 
 -- ---- what a lane sees
 
-pub others_after : (serial : ℕ) (calls : List Answered) (sight : Sight) → (after_calls serial sight calls).others ≡ sight.others
-others_after serial [] sight = refl
-others_after serial (call ∷ calls) sight = others_after serial calls _ ∙ same_others serial sight call.0 call.1
+pub others_after : (setup : Setup) (calls : List Answered) (sight : Sight) → (after_calls setup sight calls).others ≡ sight.others
+others_after setup [] sight = refl
+others_after setup (call ∷ calls) sight = others_after setup calls _ ∙ same_others setup sight call.0 call.1
 
 seen_other : (sight : Sight) (slot : ℕ) (kind : Kind) → slot < sight.first → StandsAt sight.others slot kind → SlotIsSeen sight slot kind
 seen_other sight slot kind less was =
@@ -147,14 +148,14 @@ pub record SeesBefore (earlier : List (List (List BoundCall))) (before : List Bo
 
 pub sees_before : (earlier later : List (List (List BoundCall))) (lanes_before lanes_after : List (List BoundCall)) (answered : List Answered) (call : BoundCall) (after : List BoundCall)
     → IsBound (earlier ++ (lanes_before ++ (map (λ (c : Answered). c.0) answered ++ call ∷ after) ∷ lanes_after) ∷ later)
-    → All IsAnsweredCall answered → (serial : ℕ) (others : List Object) → SlotsStand others (flat_map (flat_map made_in) earlier)
-    → SeesBefore earlier (map (λ (c : Answered). c.0) answered) (after_calls serial (record { others = others; first = slots_before earlier lanes_before; own = [] }) answered) call
-sees_before earlier later lanes_before lanes_after answered call after bound all serial others holds =
+    → All IsAnsweredCall answered → (setup : Setup) (others : List Object) → SlotsStand others (flat_map (flat_map made_in) earlier)
+    → SeesBefore earlier (map (λ (c : Answered). c.0) answered) (after_calls setup (record { others = others; first = slots_before earlier lanes_before; own = [] }) answered) call
+sees_before earlier later lanes_before lanes_after answered call after bound all setup others holds =
     let before : List BoundCall = map (λ (c : Answered). c.0) answered in
     let calls : List BoundCall = before ++ call ∷ after in
     let first : ℕ = slots_before earlier lanes_before in
     let start : Sight = record { others = others; first = first; own = [] } in
-    let sight : Sight = after_calls serial start answered in
+    let sight : Sight = after_calls setup start answered in
     let visible : Slots = flat_map (flat_map made_in) earlier in
     let lane = lane_in earlier later lanes_before lanes_after calls bound.used in
     let parts : made_in calls ≡ made_in before ++ made_in (call ∷ after) = flat_map-append made_by before (call ∷ after) in
@@ -164,22 +165,22 @@ sees_before earlier later lanes_before lanes_after answered call after bound all
     let bound_before = lane_front visible [] before (call ∷ after) lane in
     let set = lane_set earlier later lanes_before lanes_after calls bound.set in
     let both : HoldsSet sight.first sight.own (made_in before) (all_configured before)
-    = all_held serial visible answered [] [] start (none_set first) all bound_before (set_front [] before (call ∷ after) set)
+    = all_held setup visible answered [] [] start (none_set first) all bound_before (set_front [] before (call ∷ after) set)
     (subst (λ n. AreFrom n (slots_of (made_in before))) zero_is numbers) in
     let held : HoldsFrom sight.first sight.own (made_in before) = both.held in
-    let same : sight.first ≡ first = first_after serial answered start in
+    let same : sight.first ≡ first = first_after setup answered start in
     let seen_before : AreFrom 0 (slots_of visible) = earlier_from earlier ((lanes_before ++ calls ∷ lanes_after) ∷ later) bound.count bound.numbered in
     let seen : SeesAll sight (visible ++ made_in before)
     = λ slot kind there. elim (Contains-append_cases visible (made_in before) (slot, kind) there) [
       | inl other ↦ let less : slot < 0 + length visible = below 0 visible slot kind seen_before other in
           let under : slot < sight.first = omega (arith, less, same) in
-          seen_other sight slot kind under (subst (λ objects. StandsAt objects slot kind) (sym (others_after serial answered start)) (holds.stands slot kind other))
+          seen_other sight slot kind under (subst (λ objects. StandsAt objects slot kind) (sym (others_after setup answered start)) (holds.stands slot kind other))
       | inr mine ↦ let from : first ≤ slot = at_least first (made_in before) slot kind numbers mine in
           let over : sight.first ≤ slot = omega (arith, from, same) in
           seen_own sight slot kind over (held.stands slot kind mine)
     ] in
     let stands : Stands sight.first sight.own before
-    = all_after serial visible answered [] start (no_calls first) all bound_before (subst (λ n. AreFrom n (slots_of (made_in before))) zero_is numbers) in
+    = all_after setup visible answered [] start (no_calls first) all bound_before (subst (λ n. AreFrom n (slots_of (made_in before))) zero_is numbers) in
     record {
       seen = seen;
       found = call_found sight (visible ++ made_in before) before (all_configured before) seen held.stands stands both.sets call (call_in visible [] before call after lane)
@@ -187,8 +188,8 @@ sees_before earlier later lanes_before lanes_after answered call after bound all
     }
 
 pub bound_is_found : BoundIsFound
-bound_is_found earlier later lanes_before lanes_after answered call after bound all serial others holds =
-    (sees_before earlier later lanes_before lanes_after answered call after bound all serial others holds).found
+bound_is_found earlier later lanes_before lanes_after answered call after bound all setup others holds =
+    (sees_before earlier later lanes_before lanes_after answered call after bound all setup others holds).found
 
 -- ---- what a phase has made
 
@@ -217,34 +218,34 @@ lane_held objects own made ours was held from =
       ];
     }
 
-gathered_held : (serial : ℕ) (others : List Object) (visible : Slots) (lanes : List (List Answered)) (objects : List Object) (made : Slots) → SlotsStand objects made → All (All IsAnsweredCall) lanes
-    → All (LaneIsBound visible []) (phase_of lanes) → All (LaneIsSet []) (phase_of lanes) → AreFrom (length objects) (slots_of (flat_map made_in (phase_of lanes))) → SlotsStand (gathered objects (ended_from serial others (length objects) lanes)) (made ++ flat_map made_in (phase_of lanes))
-gathered_held serial others visible [] objects made was all bound set from = subst (SlotsStand objects) (sym (append-nil made)) was
-gathered_held serial others visible (calls ∷ lanes) objects made was all bound set from =
+gathered_held : (setup : Setup) (others : List Object) (visible : Slots) (lanes : List (List Answered)) (objects : List Object) (made : Slots) → SlotsStand objects made → All (All IsAnsweredCall) lanes
+    → All (LaneIsBound visible []) (phase_of lanes) → All (LaneIsSet []) (phase_of lanes) → AreFrom (length objects) (slots_of (flat_map made_in (phase_of lanes))) → SlotsStand (gathered objects (ended_from setup others (length objects) lanes)) (made ++ flat_map made_in (phase_of lanes))
+gathered_held setup others visible [] objects made was all bound set from = subst (SlotsStand objects) (sym (append-nil made)) was
+gathered_held setup others visible (calls ∷ lanes) objects made was all bound set from =
     let first : ℕ = length objects in
     let start : Sight = record { others = others; first = first; own = [] } in
-    let sight : Sight = after_calls serial start calls in
+    let sight : Sight = after_calls setup start calls in
     let ours : Slots = made_in (map (λ (c : Answered). c.0) calls) in
     let rest : Slots = flat_map made_in (phase_of lanes) in
     let numbers : AreFrom first (slots_of ours) = from_front first ours rest from in
     let zero_is : first ≡ first + 0 = omega arith in
     let bound_calls : List BoundCall = map (λ (c : Answered). c.0) calls in
     let there : HoldsSet sight.first sight.own ours (all_configured bound_calls)
-    = all_held serial visible calls [] [] start (none_set first) (All-head (All IsAnsweredCall) calls lanes all) (All-head (LaneIsBound visible []) bound_calls (phase_of lanes) bound)
+    = all_held setup visible calls [] [] start (none_set first) (All-head (All IsAnsweredCall) calls lanes all) (All-head (LaneIsBound visible []) bound_calls (phase_of lanes) bound)
     (All-head (LaneIsSet []) bound_calls (phase_of lanes) set) (subst (λ n. AreFrom n (slots_of ours)) zero_is numbers) in
-    let held : HoldsFrom first sight.own ours = subst (λ n. HoldsFrom n sight.own ours) (first_after serial calls start) there.held in
+    let held : HoldsFrom first sight.own ours = subst (λ n. HoldsFrom n sight.own ours) (first_after setup calls start) there.held in
     let more : length (objects ++ sight.own) ≡ length objects + length sight.own = length-append objects sight.own in
     let count : length sight.own ≡ length ours = held.count in
     let next : length (objects ++ sight.own) ≡ first + length ours = omega (arith, more, count) in
-    let end : SlotsStand (gathered (objects ++ sight.own) (ended_from serial others (length (objects ++ sight.own)) lanes)) ((made ++ ours) ++ rest)
-    = gathered_held serial others visible lanes (objects ++ sight.own) (made ++ ours) (lane_held objects sight.own made ours was held numbers) (All-tail (All IsAnsweredCall) calls lanes all)
+    let end : SlotsStand (gathered (objects ++ sight.own) (ended_from setup others (length (objects ++ sight.own)) lanes)) ((made ++ ours) ++ rest)
+    = gathered_held setup others visible lanes (objects ++ sight.own) (made ++ ours) (lane_held objects sight.own made ours was held numbers) (All-tail (All IsAnsweredCall) calls lanes all)
     (All-tail (LaneIsBound visible []) bound_calls (phase_of lanes) bound) (All-tail (LaneIsSet []) bound_calls (phase_of lanes) set)
     (subst (λ n. AreFrom n (slots_of rest)) (sym next) (from_back first ours rest from)) in
-    subst (λ n. SlotsStand (gathered (objects ++ sight.own) (ended_from serial others n lanes)) (made ++ (ours ++ rest))) next
-    (subst (SlotsStand (gathered (objects ++ sight.own) (ended_from serial others (length (objects ++ sight.own)) lanes))) (append_assoc made ours rest) end)
+    subst (λ n. SlotsStand (gathered (objects ++ sight.own) (ended_from setup others n lanes)) (made ++ (ours ++ rest))) next
+    (subst (SlotsStand (gathered (objects ++ sight.own) (ended_from setup others (length (objects ++ sight.own)) lanes))) (append_assoc made ours rest) end)
 
 pub gathered_is_held : GatheredIsHeld
-gathered_is_held earlier later lanes bound all serial others holds =
+gathered_is_held earlier later lanes bound all setup others holds =
     let before : Slots = flat_map (flat_map made_in) earlier in
     let here : Slots = flat_map made_in (phase_of lanes) in
     let rest : Slots = flat_map (flat_map made_in) later in
@@ -255,5 +256,5 @@ gathered_is_held earlier later lanes bound all serial others holds =
     let numbers : AreFrom (length others) (slots_of here) = subst (λ n. AreFrom n (slots_of here)) first (from_front (0 + length before) here rest (from_back 0 before (here ++ rest) from)) in
     let end : before ++ here ≡ flat_map (flat_map made_in) (earlier ++ phase_of lanes ∷ [])
     = ap (λ ms. before ++ ms) (sym (append-nil here)) ∙ sym (flat_map-append (flat_map made_in) earlier (phase_of lanes ∷ [])) in
-    subst (SlotsStand (gathered others (ended_from serial others (length others) lanes))) end (gathered_held serial others before lanes others before holds all (phase_at [] earlier later (phase_of lanes) bound.used)
+    subst (SlotsStand (gathered others (ended_from setup others (length others) lanes))) end (gathered_held setup others before lanes others before holds all (phase_at [] earlier later (phase_of lanes) bound.used)
     (all_at (All (LaneIsSet [])) earlier later (phase_of lanes) bound.set) numbers)

@@ -8,6 +8,7 @@ use Rattle.std.proofs.lemmas.List.Elements.{All-head, All-tail, Contains-append_
 use Rattle.wg_types.specs.Handles.{HandleValue}
 use Rattle.wg_types.specs.Kinds.{kind_of}
 use Rattle.wg_types.specs.Canvases.{named as canvas_named}
+use Rattle.wg_types.specs.declared.limits.Limits.{Limits}
 use Rattle.wg_types.specs.declared.canvases.CanvasFormat.{CanvasFormat}
 use Rattle.wg_types.specs.declared.canvases.CanvasCall.{CanvasCall}
 use Rattle.wg_types.specs.declared.canvases.CanvasCall.TheVariants.{Configure, Current, Present}
@@ -32,6 +33,7 @@ use Rattle.wg_canvas.specs.declared.canvas.Setting.{Setting}
 use Rattle.wg_canvas.specs.declared.canvas.Stage.{Stage}
 use Rattle.wg_canvas.specs.declared.canvas.Stage.TheVariants.{Unset, Empty, Filled}
 use Rattle.wg_encoder.specs.Recorders.{RecorderValue, recorded, targets_left}
+use Rattle.wg_history.specs.declared.events.Setup.{Setup}
 use Rattle.wg_calls.specs.Calls.{handle_of, taken_out}
 use Rattle.wg_script.specs.CallOf.{BoundCall}
 use Rattle.wg_script.specs.declared.calls.CallOf.TheVariants.{Record, Ask, Canvas}
@@ -111,9 +113,9 @@ ended_stands : (sight : Sight) (ended : Option ℕ) (place : ℕ) (k : Kind) →
 ended_stands sight None place k was = was
 ended_stands sight (Some encoder) place k was = stands_changed taken_out taken_open sight.own (place_in sight encoder) place k was
 
-kept_stands : (objects : List Object) (handle : Option HandleValue) (place : ℕ) (k : Kind) → StandsAt objects place k → StandsAt (with_kept objects handle) place k
-kept_stands objects None place k was = was
-kept_stands objects (Some handle) place k was = stands_append objects (object_of handle ∷ []) place k was
+kept_stands : (limits : Limits) (objects : List Object) (handle : Option HandleValue) (place : ℕ) (k : Kind) → StandsAt objects place k → StandsAt (with_kept limits objects handle) place k
+kept_stands limits objects None place k was = was
+kept_stands limits objects (Some handle) place k was = stands_append objects (object_of limits handle ∷ []) place k was
 
 -- ---- a change of a canvas
 
@@ -134,34 +136,34 @@ had_texture (Filled setting texture) has = has
 
 -- What the device makes for a canvas is a texture.
 
-handle_is : (serial : ℕ) (known : TextureInfo) (answer : Answer) → IsTexture (handle_of serial (info.Texture known) answer)
-handle_is serial known (Made number valid) = refl
-handle_is serial known (Queued op) = tt
-handle_is serial known Promised = tt
-handle_is serial known Plain = tt
-handle_is serial known BadCompletion = tt
+handle_is : (setup : Setup) (known : TextureInfo) (answer : Answer) → IsTexture (handle_of setup.serial (info.Texture known) answer)
+handle_is setup known (Made number valid) = refl
+handle_is setup known (Queued op) = tt
+handle_is setup known Promised = tt
+handle_is setup known Plain = tt
+handle_is setup known BadCompletion = tt
 
-expiry_gives : (serial : ℕ) (texture : Option HandleValue) (answer : Answer) → IsTexture (given_by serial (option_map Destroy texture) answer)
-expiry_gives serial None answer = tt
-expiry_gives serial (Some texture) answer = tt
+expiry_gives : (setup : Setup) (texture : Option HandleValue) (answer : Answer) → IsTexture (given_by setup (option_map Destroy texture) answer)
+expiry_gives setup None answer = tt
+expiry_gives setup (Some texture) answer = tt
 
-stage_gives : (serial : ℕ) (canvas : CanvasValue) (stage : Stage) (answer : Answer) → IsTexture (given_by serial (stage_asked canvas stage) answer)
-stage_gives serial canvas Unset answer = tt
-stage_gives serial canvas (Empty setting) answer = handle_is serial (info_of canvas setting) answer
-stage_gives serial canvas (Filled setting texture) answer = tt
+stage_gives : (setup : Setup) (canvas : CanvasValue) (stage : Stage) (answer : Answer) → IsTexture (given_by setup (stage_asked canvas stage) answer)
+stage_gives setup canvas Unset answer = tt
+stage_gives setup canvas (Empty setting) answer = handle_is setup (info_of canvas setting) answer
+stage_gives setup canvas (Filled setting texture) answer = tt
 
-act_gives : (serial : ℕ) (canvas : CanvasValue) (call : CanvasCall) (answer : Answer) → IsTexture (given_by serial (act_asked canvas call) answer)
-act_gives serial canvas (Configure format usage) answer = expiry_gives serial (texture_of canvas) answer
-act_gives serial canvas Current answer = stage_gives serial canvas canvas.stage answer
-act_gives serial canvas Present answer = expiry_gives serial (texture_of canvas) answer
+act_gives : (setup : Setup) (canvas : CanvasValue) (call : CanvasCall) (answer : Answer) → IsTexture (given_by setup (act_asked canvas call) answer)
+act_gives setup canvas (Configure format usage) answer = expiry_gives setup (texture_of canvas) answer
+act_gives setup canvas Current answer = stage_gives setup canvas canvas.stage answer
+act_gives setup canvas Present answer = expiry_gives setup (texture_of canvas) answer
 
-place_gives : (serial : ℕ) (found : Option CanvasValue) (call : CanvasCall) (answer : Answer) → IsTexture (given_by serial (option_and_then (λ canvas. act_asked canvas call) found) answer)
-place_gives serial None call answer = tt
-place_gives serial (Some canvas) call answer = act_gives serial canvas call answer
+place_gives : (setup : Setup) (found : Option CanvasValue) (call : CanvasCall) (answer : Answer) → IsTexture (given_by setup (option_and_then (λ canvas. act_asked canvas call) found) answer)
+place_gives setup None call answer = tt
+place_gives setup (Some canvas) call answer = act_gives setup canvas call answer
 
-pub canvas_gives : (serial : ℕ) (sight : Sight) (call : CanvasOf ℕ) (answer : Answer) → IsTexture (given_by serial (canvas_asks sight call) answer)
-canvas_gives serial sight (Create width height) answer = tt
-canvas_gives serial sight (OnCanvas canvas call) answer = place_gives serial (canvas_at sight.own (place_in sight canvas)) call answer
+pub canvas_gives : (setup : Setup) (sight : Sight) (call : CanvasOf ℕ) (answer : Answer) → IsTexture (given_by setup (canvas_asks sight call) answer)
+canvas_gives setup sight (Create width height) answer = tt
+canvas_gives setup sight (OnCanvas canvas call) answer = place_gives setup (canvas_at sight.own (place_in sight canvas)) call answer
 
 of_redrawn : (call : CanvasCall) (given : Option HandleValue) → IsTexture given → (k : Kind) (x : Object) → IsOf k x → IsOf k (redrawn x (λ canvas. acted canvas call given))
 of_redrawn call given new k (object.Made handle recorder) of = of
@@ -180,28 +182,28 @@ acted_stands call given new objects at place k was = elim (cases_eq at place) [
   | inr differs ↦ record { what = was.what; is = redrawn_other (λ canvas. acted canvas call given) objects at place differs ∙ was.is; of = was.of }
 ]
 
-drawn_stands : (serial : ℕ) (sight : Sight) (call : CanvasOf ℕ) (made : Option ℕ) (answer : Answer) (place : ℕ) (k : Kind) → StandsAt sight.own place k
-    → StandsAt (drawn sight call made (given_by serial (canvas_asks sight call) answer)).own place k
-drawn_stands serial sight (Create width height) made answer place k was = stands_append sight.own (new_canvas width height made) place k was
-drawn_stands serial sight (OnCanvas canvas call) made answer place k was =
+drawn_stands : (setup : Setup) (sight : Sight) (call : CanvasOf ℕ) (made : Option ℕ) (answer : Answer) (place : ℕ) (k : Kind) → StandsAt sight.own place k
+    → StandsAt (drawn sight call made (given_by setup (canvas_asks sight call) answer)).own place k
+drawn_stands setup sight (Create width height) made answer place k was = stands_append sight.own (new_canvas width height made) place k was
+drawn_stands setup sight (OnCanvas canvas call) made answer place k was =
     let at : ℕ = place_in sight canvas in
-    let given : Option HandleValue = given_by serial (canvas_asked sight.own at call) answer in
+    let given : Option HandleValue = given_by setup (canvas_asked sight.own at call) answer in
     let objects : List Object = acted_at sight.own at call given in
     stands_append objects (shown_at objects at call made) place k
-    (acted_stands call given (place_gives serial (canvas_at sight.own at) call answer) sight.own at place k was)
+    (acted_stands call given (place_gives setup (canvas_at sight.own at) call answer) sight.own at place k was)
 
 -- what stood before a call stands after it
-pub call_stands : (serial : ℕ) (sight : Sight) (call : BoundCall) (answer : Answer) (place : ℕ) (k : Kind) → StandsAt sight.own place k → StandsAt (after_call serial sight (call, answer)).own place k
-call_stands serial sight (Record on command made) answer place k was =
+pub call_stands : (setup : Setup) (sight : Sight) (call : BoundCall) (answer : Answer) (place : ℕ) (k : Kind) → StandsAt sight.own place k → StandsAt (after_call setup sight (call, answer)).own place k
+call_stands setup sight (Record on command made) answer place k was =
     let stand : Stand = stand_seen sight on in
     let found : Command = command_seen sight command in
-    subst (λ (s : Sight). StandsAt s.own place k) (sym (after_record serial sight on command made answer))
+    subst (λ (s : Sight). StandsAt s.own place k) (sym (after_record setup sight on command made answer))
     (stands_append (recorded_on sight.own stand found) (begun_by sight.own stand.encoder found made) place k (recorded_stands sight.own stand found place k was))
-call_stands serial sight (Ask request made) answer place k was =
-    subst (λ (s : Sight). StandsAt s.own place k) (sym (after_ask serial sight request made answer))
-    (kept_stands (ended_on sight (ended_by request)) (handle_kept serial sight request made answer) place k (ended_stands sight (ended_by request) place k was))
-call_stands serial sight (Canvas call made) answer place k was =
-    subst (λ (s : Sight). StandsAt s.own place k) (sym (after_canvas serial sight call made answer)) (drawn_stands serial sight call made answer place k was)
+call_stands setup sight (Ask request made) answer place k was =
+    subst (λ (s : Sight). StandsAt s.own place k) (sym (after_ask setup sight request made answer))
+    (kept_stands setup.limits (ended_on sight (ended_by request)) (handle_kept setup sight request made answer) place k (ended_stands sight (ended_by request) place k was))
+call_stands setup sight (Canvas call made) answer place k was =
+    subst (λ (s : Sight). StandsAt s.own place k) (sym (after_canvas setup sight call made answer)) (drawn_stands setup sight call made answer place k was)
 
 -- ---- what a call makes
 
@@ -223,19 +225,20 @@ new_pass sight stand found slot k begins =
     subst (λ (more : List Object). StandsAt (kept ++ more) (length sight.own) k) (sym one)
     (subst (λ n. StandsAt (kept ++ pass ∷ []) n k) count (record { what = pass; is = at_new kept pass; of = pass_kind (bracket found) k begins }))
 
-of_handle : (handle : HandleValue) (k : Kind) → kind_of handle.info ≡ k → IsOf k (object_of handle)
-of_handle handle k same = (
+of_handle : (limits : Limits) (handle : HandleValue) (k : Kind) → kind_of handle.info ≡ k → IsOf k (object_of limits handle)
+of_handle limits handle k same = (
   same,
-  λ p. let new = opens handle.reference handle.info (ap has_recorder same ∙ p) in record {
+  λ p. let new = opens limits handle.reference handle.info (ap has_recorder same ∙ p) in record {
     is_open = record { recorder = new.recorder; is = new.is; open_for = new.open_for };
     kind_is = new.kind_is ∙ same;
   },
 )
 
-new_object : (objects : List Object) (handle : Option HandleValue) (slot : ℕ) (k : Kind) → FitsSlot handle (Some (slot, k)) → ((h : HandleValue) → handle ≡ Some h → kind_of h.info ≡ k)
-    → StandsAt (with_kept objects handle) (length objects) k
-new_object objects None slot k fits kind = absurd fits
-new_object objects (Some handle) slot k fits kind = record { what = object_of handle; is = at_new objects (object_of handle); of = of_handle handle k (kind handle refl) }
+new_object : (limits : Limits) (objects : List Object) (handle : Option HandleValue) (slot : ℕ) (k : Kind) → FitsSlot handle (Some (slot, k)) → ((h : HandleValue) → handle ≡ Some h → kind_of h.info ≡ k)
+    → StandsAt (with_kept limits objects handle) (length objects) k
+new_object limits objects None slot k fits kind = absurd fits
+new_object limits objects (Some handle) slot k fits kind =
+    record { what = object_of limits handle; is = at_new objects (object_of limits handle); of = of_handle limits handle k (kind handle refl) }
 
 -- The texture that a currentTexture shows of a canvas that is configured was made for it, or was there.
 
@@ -243,47 +246,47 @@ pub stage_filled : (canvas : CanvasValue) (given : Option HandleValue) → (fill
 stage_filled canvas None = refl
 stage_filled canvas (Some texture) = refl
 
-made_shown : (serial : ℕ) (setting : Setting) (known : TextureInfo) (answer : Answer) → is_made answer ≡ true
-    → IsShown (texture_at (option_map_or (filled_at (Empty setting)) (handle_of serial (info.Texture known) answer) (Empty setting)))
-made_shown serial setting known (Made number valid) made = refl
-made_shown serial setting known (Queued op) made = absurd (cc (made))
-made_shown serial setting known Promised made = absurd (cc (made))
-made_shown serial setting known Plain made = absurd (cc (made))
-made_shown serial setting known BadCompletion made = absurd (cc (made))
+made_shown : (setup : Setup) (setting : Setting) (known : TextureInfo) (answer : Answer) → is_made answer ≡ true
+    → IsShown (texture_at (option_map_or (filled_at (Empty setting)) (handle_of setup.serial (info.Texture known) answer) (Empty setting)))
+made_shown setup setting known (Made number valid) made = refl
+made_shown setup setting known (Queued op) made = absurd (cc (made))
+made_shown setup setting known Promised made = absurd (cc (made))
+made_shown setup setting known Plain made = absurd (cc (made))
+made_shown setup setting known BadCompletion made = absurd (cc (made))
 
-stage_shown : (serial : ℕ) (canvas : CanvasValue) (answer : Answer) (stage : Stage) → stage ≢ Unset → HasTexture stage → is_made answer ≡ true
-    → IsShown (texture_at (option_map_or (filled_at stage) (given_by serial (stage_asked canvas stage) answer) stage))
-stage_shown serial canvas answer Unset set has made = absurd (set refl)
-stage_shown serial canvas answer (Empty setting) set has made = made_shown serial setting (info_of canvas setting) answer made
-stage_shown serial canvas answer (Filled setting texture) set has made = has
+stage_shown : (setup : Setup) (canvas : CanvasValue) (answer : Answer) (stage : Stage) → stage ≢ Unset → HasTexture stage → is_made answer ≡ true
+    → IsShown (texture_at (option_map_or (filled_at stage) (given_by setup (stage_asked canvas stage) answer) stage))
+stage_shown setup canvas answer Unset set has made = absurd (set refl)
+stage_shown setup canvas answer (Empty setting) set has made = made_shown setup setting (info_of canvas setting) answer made
+stage_shown setup canvas answer (Filled setting texture) set has made = has
 
-canvas_shown : (serial : ℕ) (canvas : CanvasValue) (answer : Answer) → canvas.stage ≢ Unset → HasTexture canvas.stage → is_made answer ≡ true
-    → IsShown (texture_of (filled_if canvas (given_by serial (texture_asked canvas) answer)))
-canvas_shown serial canvas answer set has made =
-    subst (λ (stage : Stage). IsShown (texture_at stage)) (sym (stage_filled canvas (given_by serial (texture_asked canvas) answer)))
-    (stage_shown serial canvas answer canvas.stage set has made)
+canvas_shown : (setup : Setup) (canvas : CanvasValue) (answer : Answer) → canvas.stage ≢ Unset → HasTexture canvas.stage → is_made answer ≡ true
+    → IsShown (texture_of (filled_if canvas (given_by setup (texture_asked canvas) answer)))
+canvas_shown setup canvas answer set has made =
+    subst (λ (stage : Stage). IsShown (texture_at stage)) (sym (stage_filled canvas (given_by setup (texture_asked canvas) answer)))
+    (stage_shown setup canvas answer canvas.stage set has made)
 
-current_shown : (serial : ℕ) (sight : Sight) (canvas : ℕ) (answer : Answer) → IsSeenSet sight canvas Current → is_made answer ≡ true
-    → let at = place_in sight canvas in IsShown (option_and_then texture_of (canvas_at (acted_at sight.own at Current (given_by serial (canvas_asked sight.own at Current) answer)) at))
-current_shown serial sight canvas answer seen made =
+current_shown : (setup : Setup) (sight : Sight) (canvas : ℕ) (answer : Answer) → IsSeenSet sight canvas Current → is_made answer ≡ true
+    → let at = place_in sight canvas in IsShown (option_and_then texture_of (canvas_at (acted_at sight.own at Current (given_by setup (canvas_asked sight.own at Current) answer)) at))
+current_shown setup sight canvas answer seen made =
     let at : ℕ = place_in sight canvas in
-    let given : Option CanvasValue → Option HandleValue = λ found. given_by serial (option_and_then (λ c. act_asked c Current) found) answer in
+    let given : Option CanvasValue → Option HandleValue = λ found. given_by setup (option_and_then (λ c. act_asked c Current) found) answer in
     subst (λ (found : Option CanvasValue). IsShown (option_and_then texture_of found))
     (sym (own_canvas (λ c. acted c Current (given (canvas_at sight.own at))) sight.own at))
     (subst (λ (found : Option CanvasValue). IsShown (option_and_then texture_of (option_map (λ c. acted c Current (given found)) found))) (sym seen.is)
-    (canvas_shown serial seen.found answer (seen.set refl) seen.texture made))
+    (canvas_shown setup seen.found answer (seen.set refl) seen.texture made))
 
-drawn_makes : (serial : ℕ) (sight : Sight) (call : CanvasOf ℕ) (made : Option ℕ) (answer : Answer) (slot : ℕ) (k : Kind) → IsAnswerTo (Canvas call made) answer → CanvasIsSeen sight call
-    → made_of (Canvas call made) ≡ Some (slot, k) → StandsAt (drawn sight call made (given_by serial (canvas_asks sight call) answer)).own (length sight.own) k
-drawn_makes serial sight call None answer slot k answered seen e = absurd (cc (e))
-drawn_makes serial sight (Create width height) (Some name) answer slot k answered seen e =
+drawn_makes : (setup : Setup) (sight : Sight) (call : CanvasOf ℕ) (made : Option ℕ) (answer : Answer) (slot : ℕ) (k : Kind) → IsAnswerTo (Canvas call made) answer → CanvasIsSeen sight call
+    → made_of (Canvas call made) ≡ Some (slot, k) → StandsAt (drawn sight call made (given_by setup (canvas_asks sight call) answer)).own (length sight.own) k
+drawn_makes setup sight call None answer slot k answered seen e = absurd (cc (e))
+drawn_makes setup sight (Create width height) (Some name) answer slot k answered seen e =
     let new : Object = object.Canvas (record { width = width; height = height; stage = Unset }) in
     let same : Some kinds.Canvas ≡ Some k = same_kind name slot (Some kinds.Canvas) k e in
     record { what = new; is = at_new sight.own new; of = (cc (same), tt) }
-drawn_makes serial sight (OnCanvas canvas (Configure format usage)) (Some name) answer slot k answered seen e = absurd (cc (e))
-drawn_makes serial sight (OnCanvas canvas Current) (Some name) answer slot k answered seen e =
+drawn_makes setup sight (OnCanvas canvas (Configure format usage)) (Some name) answer slot k answered seen e = absurd (cc (e))
+drawn_makes setup sight (OnCanvas canvas Current) (Some name) answer slot k answered seen e =
     let at : ℕ = place_in sight canvas in
-    let given : Option HandleValue = given_by serial (canvas_asked sight.own at Current) answer in
+    let given : Option HandleValue = given_by setup (canvas_asked sight.own at Current) answer in
     let objects : List Object = acted_at sight.own at Current given in
     let new : Object = object.Shown (option_and_then texture_of (canvas_at objects at)) in
     let same : Some kinds.CanvasTexture ≡ Some k = same_kind name slot (Some kinds.CanvasTexture) k e in
@@ -291,26 +294,26 @@ drawn_makes serial sight (OnCanvas canvas Current) (Some name) answer slot k ans
     record {
       what = new;
       is = subst (λ n. slice_get (objects ++ new ∷ []) n ≡ Some new) count (at_new objects new);
-      of = (cc (same), current_shown serial sight canvas answer seen (answered refl));
+      of = (cc (same), current_shown setup sight canvas answer seen (answered refl));
     }
-drawn_makes serial sight (OnCanvas canvas Present) (Some name) answer slot k answered seen e = absurd (cc (e))
+drawn_makes setup sight (OnCanvas canvas Present) (Some name) answer slot k answered seen e = absurd (cc (e))
 
 -- it stands at the next place
-pub call_makes : (serial : ℕ) (sight : Sight) (call : BoundCall) (answer : Answer) (slot : ℕ) (k : Kind) → IsAnswerTo call answer → MakesAs sight call → made_of call ≡ Some (slot, k)
-    → StandsAt (after_call serial sight (call, answer)).own (length sight.own) k
-call_makes serial sight (Record on command None) answer slot k answered fit e = absurd (cc)
-call_makes serial sight (Record on command (Some made)) answer slot k answered fit e =
+pub call_makes : (setup : Setup) (sight : Sight) (call : BoundCall) (answer : Answer) (slot : ℕ) (k : Kind) → IsAnswerTo call answer → MakesAs sight call → made_of call ≡ Some (slot, k)
+    → StandsAt (after_call setup sight (call, answer)).own (length sight.own) k
+call_makes setup sight (Record on command None) answer slot k answered fit e = absurd (cc)
+call_makes setup sight (Record on command (Some made)) answer slot k answered fit e =
     let found : Command = command_seen sight command in
     let begins : kind_begun found ≡ Some k = begun_mapped (handle_in_sight sight) command ∙ same_kind made slot (kind_begun command) k e in
-    subst (λ (s : Sight). StandsAt s.own (length sight.own) k) (sym (after_record serial sight on command (Some made) answer)) (new_pass sight (stand_seen sight on) found made k begins)
-call_makes serial sight (Ask request made) answer slot k answered fit e =
-    let handle : Option HandleValue = handle_kept serial sight request made answer in
-    let fits : FitsSlot handle (Some (slot, k)) = subst (FitsSlot handle) e (handle_fits serial sight request made answer answered) in
-    subst (λ (s : Sight). StandsAt s.own (length sight.own) k) (sym (after_ask serial sight request made answer))
-    (subst (λ n. StandsAt (with_kept (ended_on sight (ended_by request)) handle) n k) (ended_length sight (ended_by request))
-    (new_object (ended_on sight (ended_by request)) handle slot k fits (handle_kind serial sight request made answer slot k fit e)))
-call_makes serial sight (Canvas call made) answer slot k answered fit e =
-    subst (λ (s : Sight). StandsAt s.own (length sight.own) k) (sym (after_canvas serial sight call made answer)) (drawn_makes serial sight call made answer slot k answered fit e)
+    subst (λ (s : Sight). StandsAt s.own (length sight.own) k) (sym (after_record setup sight on command (Some made) answer)) (new_pass sight (stand_seen sight on) found made k begins)
+call_makes setup sight (Ask request made) answer slot k answered fit e =
+    let handle : Option HandleValue = handle_kept setup sight request made answer in
+    let fits : FitsSlot handle (Some (slot, k)) = subst (FitsSlot handle) e (handle_fits setup sight request made answer answered) in
+    subst (λ (s : Sight). StandsAt s.own (length sight.own) k) (sym (after_ask setup sight request made answer))
+    (subst (λ n. StandsAt (with_kept setup.limits (ended_on sight (ended_by request)) handle) n k) (ended_length sight (ended_by request))
+    (new_object setup.limits (ended_on sight (ended_by request)) handle slot k fits (handle_kind setup sight request made answer slot k fit e)))
+call_makes setup sight (Canvas call made) answer slot k answered fit e =
+    subst (λ (s : Sight). StandsAt s.own (length sight.own) k) (sym (after_canvas setup sight call made answer)) (drawn_makes setup sight call made answer slot k answered fit e)
 
 -- ---- canvases that are configured
 
@@ -330,9 +333,9 @@ set_ended : (sight : Sight) (ended : Option ℕ) (place : ℕ) → IsSet sight.o
 set_ended sight None place was = was
 set_ended sight (Some encoder) place was = set_recorded taken_out sight.own (place_in sight encoder) place was
 
-set_kept : (objects : List Object) (handle : Option HandleValue) (place : ℕ) → IsSet objects place → IsSet (with_kept objects handle) place
-set_kept objects None place was = was
-set_kept objects (Some handle) place was = set_append objects (object_of handle ∷ []) place was
+set_kept : (limits : Limits) (objects : List Object) (handle : Option HandleValue) (place : ℕ) → IsSet objects place → IsSet (with_kept limits objects handle) place
+set_kept limits objects None place was = was
+set_kept limits objects (Some handle) place was = set_append objects (object_of limits handle ∷ []) place was
 
 set_acted : (call : CanvasCall) (given : Option HandleValue) (objects : List Object) (at place : ℕ) → IsSet objects place → IsSet (acted_at objects at call given) place
 set_acted call given objects at place was = elim (cases_eq at place) [
@@ -352,17 +355,17 @@ set_drawn sight (OnCanvas canvas call) made given place was =
     set_append objects (shown_at objects at call made) place (set_acted call given sight.own at place was)
 
 -- it stays so at each call
-call_leaves_set : (serial : ℕ) (sight : Sight) (call : BoundCall) (answer : Answer) (place : ℕ) → IsSet sight.own place → IsSet (after_call serial sight (call, answer)).own place
-call_leaves_set serial sight (Record on command made) answer place was =
+call_leaves_set : (setup : Setup) (sight : Sight) (call : BoundCall) (answer : Answer) (place : ℕ) → IsSet sight.own place → IsSet (after_call setup sight (call, answer)).own place
+call_leaves_set setup sight (Record on command made) answer place was =
     let stand : Stand = stand_seen sight on in
     let found : Command = command_seen sight command in
-    subst (λ (s : Sight). IsSet s.own place) (sym (after_record serial sight on command made answer))
+    subst (λ (s : Sight). IsSet s.own place) (sym (after_record setup sight on command made answer))
     (set_append (recorded_on sight.own stand found) (begun_by sight.own stand.encoder found made) place (set_recorded (recorded_by stand.on found) sight.own stand.encoder place was))
-call_leaves_set serial sight (Ask request made) answer place was =
-    subst (λ (s : Sight). IsSet s.own place) (sym (after_ask serial sight request made answer))
-    (set_kept (ended_on sight (ended_by request)) (handle_kept serial sight request made answer) place (set_ended sight (ended_by request) place was))
-call_leaves_set serial sight (Canvas call made) answer place was =
-    subst (λ (s : Sight). IsSet s.own place) (sym (after_canvas serial sight call made answer)) (set_drawn sight call made (given_by serial (canvas_asks sight call) answer) place was)
+call_leaves_set setup sight (Ask request made) answer place was =
+    subst (λ (s : Sight). IsSet s.own place) (sym (after_ask setup sight request made answer))
+    (set_kept setup.limits (ended_on sight (ended_by request)) (handle_kept setup sight request made answer) place (set_ended sight (ended_by request) place was))
+call_leaves_set setup sight (Canvas call made) answer place was =
+    subst (λ (s : Sight). IsSet s.own place) (sym (after_canvas setup sight call made answer)) (set_drawn sight call made (given_by setup (canvas_asks sight call) answer) place was)
 
 -- A canvas stands where one was made.
 pub record IsCanvasAt (objects : List Object) (place : ℕ) : Type 0 where
@@ -470,39 +473,39 @@ drawn_set sight made ours (OnCanvas at (Configure format usage)) name given own 
 drawn_set sight made ours (OnCanvas at Current) name given own all canvas there = absurd (no_more canvas there)
 drawn_set sight made ours (OnCanvas at Present) name given own all canvas there = absurd (no_more canvas there)
 
-call_sets : (serial : ℕ) (sight : Sight) (made ours : Slots) (call : BoundCall) (answer : Answer) → ((slot : ℕ) (k : Kind) → Contains ours (slot, k) → StandsAt sight.own (slot - sight.first) k)
-    → CallIsBound made ours call → (canvas : ℕ) → Contains (configured_by call) canvas → IsSet (after_call serial sight (call, answer)).own (canvas - sight.first)
-call_sets serial sight made ours (Record on command name) answer own bound canvas there = absurd (no_more canvas there)
-call_sets serial sight made ours (Ask request name) answer own bound canvas there = absurd (no_more canvas there)
-call_sets serial sight made ours (Canvas call name) answer own bound canvas there =
-    subst (λ (s : Sight). IsSet s.own (canvas - sight.first)) (sym (after_canvas serial sight call name answer))
-    (drawn_set sight made ours call name (given_by serial (canvas_asks sight call) answer) own bound canvas there)
+call_sets : (setup : Setup) (sight : Sight) (made ours : Slots) (call : BoundCall) (answer : Answer) → ((slot : ℕ) (k : Kind) → Contains ours (slot, k) → StandsAt sight.own (slot - sight.first) k)
+    → CallIsBound made ours call → (canvas : ℕ) → Contains (configured_by call) canvas → IsSet (after_call setup sight (call, answer)).own (canvas - sight.first)
+call_sets setup sight made ours (Record on command name) answer own bound canvas there = absurd (no_more canvas there)
+call_sets setup sight made ours (Ask request name) answer own bound canvas there = absurd (no_more canvas there)
+call_sets setup sight made ours (Canvas call name) answer own bound canvas there =
+    subst (λ (s : Sight). IsSet s.own (canvas - sight.first)) (sym (after_canvas setup sight call name answer))
+    (drawn_set sight made ours call name (given_by setup (canvas_asks sight call) answer) own bound canvas there)
 
-one_set : (serial : ℕ) (sight : Sight) (made ours : Slots) (done : List ℕ) (call : BoundCall) (answer : Answer) → ((slot : ℕ) (k : Kind) → Contains ours (slot, k) → StandsAt sight.own (slot - sight.first) k)
-    → AreSet sight.first sight.own done → CallIsBound made ours call → AreSet sight.first (after_call serial sight (call, answer)).own (done ++ configured_by call)
-one_set serial sight made ours done call answer own sets bound canvas there = elim (Contains-append_cases done (configured_by call) canvas there) [
-  | inl old ↦ call_leaves_set serial sight call answer (canvas - sight.first) (sets canvas old)
-  | inr new ↦ call_sets serial sight made ours call answer own bound canvas new
+one_set : (setup : Setup) (sight : Sight) (made ours : Slots) (done : List ℕ) (call : BoundCall) (answer : Answer) → ((slot : ℕ) (k : Kind) → Contains ours (slot, k) → StandsAt sight.own (slot - sight.first) k)
+    → AreSet sight.first sight.own done → CallIsBound made ours call → AreSet sight.first (after_call setup sight (call, answer)).own (done ++ configured_by call)
+one_set setup sight made ours done call answer own sets bound canvas there = elim (Contains-append_cases done (configured_by call) canvas there) [
+  | inl old ↦ call_leaves_set setup sight call answer (canvas - sight.first) (sets canvas old)
+  | inr new ↦ call_sets setup sight made ours call answer own bound canvas new
 ]
 
-one_held : (serial : ℕ) (sight : Sight) (made : Slots) (before : List BoundCall) (done : List ℕ) (call : BoundCall) (answer : Answer) → HoldsFrom sight.first sight.own (made_in before) → AreSet sight.first sight.own done → IsAnswerTo call answer
+one_held : (setup : Setup) (sight : Sight) (made : Slots) (before : List BoundCall) (done : List ℕ) (call : BoundCall) (answer : Answer) → HoldsFrom sight.first sight.own (made_in before) → AreSet sight.first sight.own done → IsAnswerTo call answer
     → CallIsBound made (made_in before) call → CallIsSet done call → ((m : ℕ × Kind) → made_of call ≡ Some m → m.0 ≡ sight.first + length sight.own)
-    → HoldsFrom sight.first (after_call serial sight (call, answer)).own (made_in (before ++ call ∷ []))
-one_held serial sight made before done call answer was sets answered bound set here =
+    → HoldsFrom sight.first (after_call setup sight (call, answer)).own (made_in (before ++ call ∷ []))
+one_held setup sight made before done call answer was sets answered bound set here =
     let fit : MakesAs sight call = makes_as sight made (made_in before) call (λ slot k p there. was.stands slot k there)
     (call_seen sight made (made_in before) done call was.stands sets bound set) bound in
-    let own : List Object = (after_call serial sight (call, answer)).own in
-    let length_is : length own ≡ length sight.own + length (made_by call) = call_length serial sight call answer answered in
+    let own : List Object = (after_call setup sight (call, answer)).own in
+    let length_is : length own ≡ length sight.own + length (made_by call) = call_length setup sight call answer answered in
     let old : length sight.own ≡ length (made_in before) = was.count in
     let joined : length (made_in before ++ made_by call) ≡ length (made_in before) + length (made_by call) = length-append (made_in before) (made_by call) in
     subst (λ ms. HoldsFrom sight.first own ms) (sym (made_more before call)) (record {
       count = omega (arith, length_is, old, joined);
       stands = λ slot k there. elim (Contains-append_cases (made_in before) (made_by call) (slot, k) there) [
-        | inl earlier ↦ call_stands serial sight call answer (slot - sight.first) k (was.stands slot k earlier)
+        | inl earlier ↦ call_stands setup sight call answer (slot - sight.first) k (was.stands slot k earlier)
         | inr new ↦ let makes : made_of call ≡ Some (slot, k) = only (made_of call) (slot, k) new in
             let next : slot ≡ sight.first + length sight.own = here (slot, k) makes in
             let place : length sight.own ≡ slot - sight.first = omega (arith, next) in
-            subst (λ n. StandsAt own n k) place (call_makes serial sight call answer slot k answered fit makes)
+            subst (λ n. StandsAt own n k) place (call_makes setup sight call answer slot k answered fit makes)
       ];
     })
 
@@ -514,29 +517,29 @@ pub record HoldsSet (first : ℕ) (own : List Object) (made : Slots) (done : Lis
 pub none_set : (first : ℕ) → HoldsSet first [] [] []
 none_set first = record { held = none_held first; sets = λ canvas there. absurd (no_more canvas there) }
 
-pub all_held : (serial : ℕ) (made : Slots) (calls : List Answered) (before : List BoundCall) (done : List ℕ) (sight : Sight) → HoldsSet sight.first sight.own (made_in before) done → All IsAnsweredCall calls
+pub all_held : (setup : Setup) (made : Slots) (calls : List Answered) (before : List BoundCall) (done : List ℕ) (sight : Sight) → HoldsSet sight.first sight.own (made_in before) done → All IsAnsweredCall calls
     → LaneIsBound made (made_in before) (map (λ call. call.0) calls) → LaneIsSet done (map (λ call. call.0) calls)
     → AreFrom (sight.first + length sight.own) (slots_of (made_in (map (λ call. call.0) calls)))
-    → HoldsSet (after_calls serial sight calls).first (after_calls serial sight calls).own (made_in (before ++ map (λ call. call.0) calls)) (done ++ all_configured (map (λ call. call.0) calls))
-all_held serial made [] before done sight was answered bound set from =
+    → HoldsSet (after_calls setup sight calls).first (after_calls setup sight calls).own (made_in (before ++ map (λ call. call.0) calls)) (done ++ all_configured (map (λ call. call.0) calls))
+all_held setup made [] before done sight was answered bound set from =
     subst (λ (ns : List ℕ). HoldsSet sight.first sight.own (made_in (before ++ [])) ns) (sym (append-nil done))
     (subst (λ (cs : List BoundCall). HoldsSet sight.first sight.own (made_in cs) done) (sym (append-nil before)) was)
-all_held serial made (call ∷ calls) before done sight was answered bound set from =
-    let after : Sight = after_call serial sight call in
-    let end : Sight = after_calls serial after calls in
+all_held setup made (call ∷ calls) before done sight was answered bound set from =
+    let after : Sight = after_call setup sight call in
+    let end : Sight = after_calls setup after calls in
     let here : IsAnsweredCall call = All-head IsAnsweredCall call calls answered in
     let rest : List BoundCall = map (λ (c : Answered). c.0) calls in
-    let first_is : after.first ≡ sight.first = same_first serial sight call.0 call.1 in
-    let length_is : length after.own ≡ length sight.own + length (made_by call.0) = call_length serial sight call.0 call.1 here in
+    let first_is : after.first ≡ sight.first = same_first setup sight call.0 call.1 in
+    let length_is : length after.own ≡ length sight.own + length (made_by call.0) = call_length setup sight call.0 call.1 here in
     let grown : (sight.first + length sight.own) + length (made_by call.0) ≡ after.first + length after.own = omega (arith, first_is, length_is) in
     let one : HoldsSet sight.first after.own (made_in (before ++ call.0 ∷ [])) (done ++ configured_by call.0) = record {
-      held = one_held serial sight made before done call.0 call.1 was.held was.sets here bound.0 set.0
+      held = one_held setup sight made before done call.0 call.1 was.held was.sets here bound.0 set.0
           (first_from (sight.first + length sight.own) (made_of call.0) (made_in rest) from);
-      sets = one_set serial sight made (made_in before) done call.0 call.1 was.held.stands was.sets bound.0;
+      sets = one_set setup sight made (made_in before) done call.0 call.1 was.held.stands was.sets bound.0;
     } in
     subst (λ (ns : List ℕ). HoldsSet end.first end.own (made_in (before ++ call.0 ∷ rest)) ns) (append_assoc done (configured_by call.0) (all_configured rest))
     (subst (λ (cs : List BoundCall). HoldsSet end.first end.own (made_in cs) ((done ++ configured_by call.0) ++ all_configured rest)) (append_assoc before (call.0 ∷ []) rest)
-    (all_held serial (made ++ made_by call.0) calls (before ++ call.0 ∷ []) (done ++ configured_by call.0) after
+    (all_held setup (made ++ made_by call.0) calls (before ++ call.0 ∷ []) (done ++ configured_by call.0) after
     (subst (λ n. HoldsSet n after.own (made_in (before ++ call.0 ∷ [])) (done ++ configured_by call.0)) (sym first_is) one)
     (All-tail IsAnsweredCall call calls answered)
     (subst (λ ms. LaneIsBound (made ++ made_by call.0) ms rest) (sym (made_more before call.0)) bound.1)

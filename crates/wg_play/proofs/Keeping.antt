@@ -5,7 +5,7 @@ use Rattle.std.specs.Option.{option_map_or}
 use Rattle.std.proofs.lemmas.Bool.{eqb-true}
 use Rattle.std.proofs.lemmas.List.Elements.{All-nil, All-cons, All-head, All-tail, All-append, All-weaker}
 use Rattle.wg_types.specs.Handles.{HandleValue}
-use Rattle.wg_types.specs.Refs.{all_wanted, maybe_wanted}
+use Rattle.wg_types.specs.Refs.{all_wanted, some_wanted, maybe_wanted}
 use Rattle.wg_types.specs.Bindings.{resource_named, entries_named, map_resource, map_entry}
 use Rattle.wg_types.specs.Commands.{Command}
 use Rattle.wg_types.specs.Requests.{named, map_refs as map_asked}
@@ -148,6 +148,11 @@ module _ (setup : Setup) (past : Past) where
     wanted_if_own want [] = All-nil UsedIfOwn
     wanted_if_own want (slot ∷ slots) = All-cons UsedIfOwn (f slot, want) (all_wanted want (map f slots)) (each slot) (wanted_if_own want slots)
 
+    some_if_own : (want : Wanted) (slots : List (Option ℕ)) → All UsedIfOwn (some_wanted want (map (option_map f) slots))
+    some_if_own want [] = All-nil UsedIfOwn
+    some_if_own want (None ∷ slots) = some_if_own want slots
+    some_if_own want (Some slot ∷ slots) = All-cons UsedIfOwn (f slot, want) (some_wanted want (map (option_map f) slots)) (each slot) (some_if_own want slots)
+
     resource_if_own : (resource : ResourceOf ℕ) → UsedIfOwn (resource_named (map_resource f resource))
     resource_if_own (Buffer buffer offset size) = each buffer
     resource_if_own (View view) = each view
@@ -164,7 +169,7 @@ module _ (setup : Setup) (past : Past) where
     named_if_own (CreateView texture asked) = one_if_own texture wanted.Texture
     named_if_own (CreateSampler known) = All-nil UsedIfOwn
     named_if_own (CreateBindGroupLayout entries) = All-nil UsedIfOwn
-    named_if_own (CreatePipelineLayout layouts) = wanted_if_own wanted.GroupLayout layouts
+    named_if_own (CreatePipelineLayout layouts) = some_if_own wanted.GroupLayout layouts
     named_if_own (CreateBindGroup layout entries) = All-cons UsedIfOwn (f layout, wanted.GroupLayout) (entries_named (map (map_entry f) entries)) (each layout) (entries_if_own entries)
     named_if_own (CreateComputePipeline layout iface) = maybe_if_own layout wanted.PipelineLayout
     named_if_own (CreateRenderPipeline layout desc) = maybe_if_own layout wanted.PipelineLayout
@@ -246,20 +251,20 @@ sent sight request = by_ended (ended_by request) refl
 -- The handle of it is genuine once the call is made.
 made_is_genuine : (setup : Setup) → setup.serial ≢ 0 → (entry : Entry) (past : Past) (sight : Sight) (request : RequestOf ℕ) (handle : HandleValue) → SeesGenuine setup past sight
     → entry.event ≡ event_sent sight request → entry.reply ≡ reply_to setup past entry.event
-    → handle_known setup.serial (info_sent sight request) entry.reply.answer ≡ Some handle → is_genuine setup (entry ∷ past) handle ≡ true
+    → handle_known setup (info_sent sight request) entry.reply.answer ≡ Some handle → is_genuine setup (entry ∷ past) handle ≡ true
 made_is_genuine setup some entry past sight request handle sees asked replied e = elim (sent sight request) [
   | inl same ↦ genuine_if_own setup entry past (request_seen sight request) handle (asked ∙ same.is) replied
       (named_if_own setup (entry ∷ past) (handle_in_sight sight) (λ slot. seen_if_own setup (entry ∷ past) some sight slot (sees_more setup entry past sight sees)) request)
-      (sym (ap (λ (o : Option Info). handle_known setup.serial o entry.reply.answer) same.makes) ∙ e)
+      (sym (ap (λ (o : Option Info). handle_known setup o entry.reply.answer) same.makes) ∙ e)
   | inr end ↦ genuine_finish setup entry past end.targets end.encoder end.recording handle (asked ∙ end.is) replied
-      (sym (ap (λ (o : Option Info). handle_known setup.serial o entry.reply.answer) end.makes) ∙ e)
+      (sym (ap (λ (o : Option Info). handle_known setup o entry.reply.answer) end.makes) ∙ e)
 ]
 
 kept_if_made : (setup : Setup) (past : Past) (objects : List Object) (handle : Option HandleValue) → HandlesAreGenuine setup past objects → ((h : HandleValue) → handle ≡ Some h → is_genuine setup past h ≡ true)
-    → HandlesAreGenuine setup past (with_kept objects handle)
+    → HandlesAreGenuine setup past (with_kept setup.limits objects handle)
 kept_if_made setup past objects None all genuine = all
 kept_if_made setup past objects (Some h) all genuine =
-    All-append (HandleIsGenuine setup past) objects (object_of h ∷ []) all (All-cons (HandleIsGenuine setup past) (object_of h) [] (genuine h refl) (All-nil (HandleIsGenuine setup past)))
+    All-append (HandleIsGenuine setup past) objects (object_of setup.limits h ∷ []) all (All-cons (HandleIsGenuine setup past) (object_of setup.limits h) [] (genuine h refl) (All-nil (HandleIsGenuine setup past)))
 
 ended_kept : (setup : Setup) (past : Past) (sight : Sight) (ended : Option ℕ) → HandlesAreGenuine setup past sight.own → HandlesAreGenuine setup past (ended_on sight ended)
 ended_kept setup past sight None all = all
@@ -277,7 +282,7 @@ given_handle : (setup : Setup) (entry : Entry) (past : Past) (known : TextureInf
 given_handle setup entry past known asked replied None e = tt
 given_handle setup entry past known asked replied (Some handle) e = genuine_if_own setup entry past (CreateTexture known) handle asked replied (All-nil (UsedIfOwn setup (entry ∷ past))) e
 
-given_expiry : (setup : Setup) (past : Past) (texture : Option HandleValue) (answer : Answer) → TextureIsGenuine setup past (given_by setup.serial (option_map Destroy texture) answer)
+given_expiry : (setup : Setup) (past : Past) (texture : Option HandleValue) (answer : Answer) → TextureIsGenuine setup past (given_by setup (option_map Destroy texture) answer)
 given_expiry setup past None answer = tt
 given_expiry setup past (Some texture) answer = tt
 
@@ -285,14 +290,14 @@ abbrev event_if : Option (RequestOf HandleValue) → Event
 event_if asked = option_map_or event_asked asked (Late unknown.reference)
 
 given_stage : (setup : Setup) (entry : Entry) (past : Past) (canvas : CanvasValue) (stage : Stage) → entry.event ≡ event_if (stage_asked canvas stage) → entry.reply ≡ reply_to setup past entry.event
-    → TextureIsGenuine setup (entry ∷ past) (given_by setup.serial (stage_asked canvas stage) entry.reply.answer)
+    → TextureIsGenuine setup (entry ∷ past) (given_by setup (stage_asked canvas stage) entry.reply.answer)
 given_stage setup entry past canvas Unset asked replied = tt
 given_stage setup entry past canvas (Empty setting) asked replied =
     given_handle setup entry past (info_of canvas setting) asked replied (handle_made setup.serial (CreateTexture (info_of canvas setting)) entry.reply.answer) refl
 given_stage setup entry past canvas (Filled setting texture) asked replied = tt
 
 given_act : (setup : Setup) (entry : Entry) (past : Past) (canvas : CanvasValue) (call : CanvasCall) → entry.event ≡ event_if (act_asked canvas call) → entry.reply ≡ reply_to setup past entry.event
-    → TextureIsGenuine setup (entry ∷ past) (given_by setup.serial (act_asked canvas call) entry.reply.answer)
+    → TextureIsGenuine setup (entry ∷ past) (given_by setup (act_asked canvas call) entry.reply.answer)
 given_act setup entry past canvas (Configure format usage) asked replied = given_expiry setup (entry ∷ past) (texture_of canvas) entry.reply.answer
 given_act setup entry past canvas Current asked replied = given_stage setup entry past canvas canvas.stage asked replied
 given_act setup entry past canvas Present asked replied = given_expiry setup (entry ∷ past) (texture_of canvas) entry.reply.answer
@@ -301,29 +306,29 @@ abbrev asked_of : CanvasCall → Option CanvasValue → Option (RequestOf Handle
 asked_of call found = option_and_then (λ canvas. act_asked canvas call) found
 
 given_found : (setup : Setup) (entry : Entry) (past : Past) (found : Option CanvasValue) (call : CanvasCall) → entry.event ≡ event_if (asked_of call found) → entry.reply ≡ reply_to setup past entry.event
-    → TextureIsGenuine setup (entry ∷ past) (given_by setup.serial (asked_of call found) entry.reply.answer)
+    → TextureIsGenuine setup (entry ∷ past) (given_by setup (asked_of call found) entry.reply.answer)
 given_found setup entry past None call asked replied = tt
 given_found setup entry past (Some canvas) call asked replied = given_act setup entry past canvas call asked replied
 
 pub given_genuine : (setup : Setup) (entry : Entry) (past : Past) (sight : Sight) (call : CanvasOf ℕ) (made : Option ℕ) → entry.event ≡ event_of sight (Canvas call made) → entry.reply ≡ reply_to setup past entry.event
-    → TextureIsGenuine setup (entry ∷ past) (given_by setup.serial (canvas_asks sight call) entry.reply.answer)
+    → TextureIsGenuine setup (entry ∷ past) (given_by setup (canvas_asks sight call) entry.reply.answer)
 given_genuine setup entry past sight (Create width height) made asked replied = tt
 given_genuine setup entry past sight (On canvas call) made asked replied = given_found setup entry past (canvas_at sight.own (place_in sight canvas)) call asked replied
 
 -- What a lane sees after its next call.
 pub answered_sees : (setup : Setup) → setup.serial ≢ 0 → (entry : Entry) (past : Past) (sight : Sight) (call : BoundCall) → SeesGenuine setup past sight
     → entry.event ≡ event_of sight call → entry.reply ≡ reply_to setup past entry.event
-    → SeesGenuine setup (entry ∷ past) (answered_by setup.serial sight call entry.reply.answer)
+    → SeesGenuine setup (entry ∷ past) (answered_by setup sight call entry.reply.answer)
 answered_sees setup some entry past sight (Record on command made) sees asked replied =
     noted_sees setup (entry ∷ past) sight (stand_seen sight on) (command_seen sight command) made (sees_more setup entry past sight sees)
 answered_sees setup some entry past sight (Ask request made) sees asked replied =
     let more : SeesGenuine setup (entry ∷ past) sight = sees_more setup entry past sight sees in
-    let handle : Option HandleValue = handle_kept setup.serial sight request made entry.reply.answer in
-    subst (SeesGenuine setup (entry ∷ past)) (sym (after_ask setup.serial sight request made entry.reply.answer)) (
+    let handle : Option HandleValue = handle_kept setup sight request made entry.reply.answer in
+    subst (SeesGenuine setup (entry ∷ past)) (sym (after_ask setup sight request made entry.reply.answer)) (
       more.0,
       kept_if_made setup (entry ∷ past) (ended_on sight (ended_by request)) handle (ended_kept setup (entry ∷ past) sight (ended_by request) more.1)
-          (λ h e. made_is_genuine setup some entry past sight request h sees asked replied (slot_made made (handle_known setup.serial (info_sent sight request) entry.reply.answer) h e)),
+          (λ h e. made_is_genuine setup some entry past sight request h sees asked replied (slot_made made (handle_known setup (info_sent sight request) entry.reply.answer) h e)),
     )
 answered_sees setup some entry past sight (Canvas call made) sees asked replied =
-    drawn_sees setup (entry ∷ past) sight call made (given_by setup.serial (canvas_asks sight call) entry.reply.answer) (given_genuine setup entry past sight call made asked replied)
+    drawn_sees setup (entry ∷ past) sight call made (given_by setup (canvas_asks sight call) entry.reply.answer) (given_genuine setup entry past sight call made asked replied)
     (sees_more setup entry past sight sees)

@@ -42,7 +42,7 @@ lane_sees setup past (lane ∷ lanes) (suc n) w all at = lane_sees setup past la
 
 -- a lane at its next event, once that was replied to
 after_sees : (setup : Setup) → setup.serial ≢ 0 → (entry : Entry) (past : Past) (sight : Sight) (left : List BoundCall) → SeesGenuine setup past sight
-    → next_of sight left ≡ Some entry.event → entry.reply ≡ reply_to setup past entry.event → LaneSees setup (entry ∷ past) (after_of setup.serial sight entry.reply left)
+    → next_of sight left ≡ Some entry.event → entry.reply ≡ reply_to setup past entry.event → LaneSees setup (entry ∷ past) (after_of setup sight entry.reply left)
 after_sees setup some entry past sight [] sees next replied = absurd (cc (next))
 after_sees setup some entry past sight (call ∷ calls) sees next replied = answered_sees setup some entry past sight call sees (cc (next)) replied
 

@@ -16,6 +16,7 @@ use Rattle.wg_script.specs.declared.calls.CallOf.TheVariants.{Record}
 use Rattle.wg_names.specs.Bound.{made_by, made_in, LaneIsBound}
 use Rattle.wg_play.specs.declared.objects.Object.{Object}
 use Rattle.wg_play.specs.declared.objects.Stand.{Stand}
+use Rattle.wg_history.specs.declared.events.Setup.{Setup}
 use Rattle.wg_calls.specs.Encoders.{is_begun}
 use Rattle.wg_play.specs.Objects.{recorder_at, stand_at, is_late_by, is_late_on}
 use Rattle.wg_play.specs.Sights.{Sight}
@@ -59,18 +60,18 @@ late_found first own before slot command place was there takes = elim (stands_on
   | inr pass ↦ late_pass first own before (slot - first) (was.passes slot place pass there)
 ]
 
-pub first_after : (serial : ℕ) (calls : List Answered) (sight : Sight) → (after_calls serial sight calls).first ≡ sight.first
-first_after serial [] sight = refl
-first_after serial (call ∷ calls) sight = first_after serial calls _ ∙ same_first serial sight call.0 call.1
+pub first_after : (setup : Setup) (calls : List Answered) (sight : Sight) → (after_calls setup sight calls).first ≡ sight.first
+first_after setup [] sight = refl
+first_after setup (call ∷ calls) sight = first_after setup calls _ ∙ same_first setup sight call.0 call.1
 
 pub late_is_finished : LateIsFinished
-late_is_finished earlier later lanes_before lanes_after answered after on command made bound all serial others =
+late_is_finished earlier later lanes_before lanes_after answered after on command made bound all setup others =
     let before : List BoundCall = map (λ (c : Answered). c.0) answered in
     let call : BoundCall = Record on command made in
     let calls : List BoundCall = before ++ call ∷ after in
     let first : ℕ = slots_before earlier lanes_before in
     let start : Sight = record { others = others; first = first; own = [] } in
-    let sight : Sight = after_calls serial start answered in
+    let sight : Sight = after_calls setup start answered in
     let visible : Slots = flat_map (flat_map made_in) earlier in
     let lane : LaneIsBound visible [] calls = lane_in earlier later lanes_before lanes_after calls bound.used in
     let parts : made_in calls ≡ made_in before ++ made_in (call ∷ after) = flat_map-append made_by before (call ∷ after) in
@@ -78,7 +79,7 @@ late_is_finished earlier later lanes_before lanes_after answered after on comman
     = from_front first (made_in before) (made_in (call ∷ after)) (subst (λ ms. AreFrom first (slots_of ms)) parts (lane_from earlier later lanes_before lanes_after calls bound.count bound.numbered)) in
     let zero_is : first ≡ first + 0 = omega arith in
     let stands : Stands sight.first sight.own before
-    = all_after serial visible answered [] start (no_calls first) all (lane_front visible [] before (call ∷ after) lane) (subst (λ n. AreFrom n (slots_of (made_in before))) zero_is numbers) in
+    = all_after setup visible answered [] start (no_calls first) all (lane_front visible [] before (call ∷ after) lane) (subst (λ n. AreFrom n (slots_of (made_in before))) zero_is numbers) in
     let here = call_in visible [] before call after lane in
-    subst (λ n. LateAt n sight.own before (stand_seen sight on)) (first_after serial answered start)
+    subst (λ n. LateAt n sight.own before (stand_seen sight on)) (first_after setup answered start)
     (late_found sight.first sight.own before on command here.place stands here.own here.takes)

@@ -4,6 +4,7 @@ use Rattle.std.specs.Prelude.{option_map, slice_get}
 use Rattle.std.specs.Option.{option_map_or}
 use Rattle.std.proofs.lemmas.Bool.{cases_eq, eq-eqb, ne_eqb}
 use Rattle.wg_types.specs.Handles.{HandleValue}
+use Rattle.wg_types.specs.declared.limits.Limits.{Limits}
 use Rattle.wg_types.specs.declared.canvases.CanvasOf.{CanvasOf}
 use Rattle.wg_types.specs.declared.canvases.CanvasOf.TheVariants.{Create, On as OnCanvas}
 use Rattle.wg_types.specs.declared.commands.On.{On}
@@ -13,6 +14,7 @@ use Rattle.wg_model.specs.Walk.{begins_pass}
 use Rattle.wg_canvas.specs.Canvases.{acted}
 use Rattle.wg_encoder.specs.Recorders.{RecorderValue, has_taken, recorded}
 use Rattle.wg_encoder.proofs.TakeLemmas.{counted}
+use Rattle.wg_history.specs.declared.events.Setup.{Setup}
 use Rattle.wg_calls.specs.Calls.{taken_out}
 use Rattle.wg_script.specs.CallOf.{BoundCall}
 use Rattle.wg_script.specs.declared.calls.CallOf.TheVariants.{Record, Ask, Canvas}
@@ -121,14 +123,14 @@ ended_length sight (Some encoder) = length_with taken_out sight.own (place_in si
 
 -- ---- what is made
 
-made_kept : (objects : List Object) (handle : Option HandleValue) (place : ℕ) (finished : Bool) (r : RecorderValue) → Kept objects place finished r → Kept (with_kept objects handle) place finished r
-made_kept objects None place finished r kept = kept
-made_kept objects (Some handle) place finished r kept = kept_append objects (object_of handle ∷ []) place finished r kept
+made_kept : (limits : Limits) (objects : List Object) (handle : Option HandleValue) (place : ℕ) (finished : Bool) (r : RecorderValue) → Kept objects place finished r → Kept (with_kept limits objects handle) place finished r
+made_kept limits objects None place finished r kept = kept
+made_kept limits objects (Some handle) place finished r kept = kept_append objects (object_of limits handle ∷ []) place finished r kept
 
-made_pass : (objects : List Object) (handle : Option HandleValue) (place encoder number : ℕ) → slice_get objects place ≡ Some (object.Pass encoder number)
-    → slice_get (with_kept objects handle) place ≡ Some (object.Pass encoder number)
-made_pass objects None place encoder number e = e
-made_pass objects (Some handle) place encoder number e = at_append objects (object_of handle ∷ []) place (object.Pass encoder number) e
+made_pass : (limits : Limits) (objects : List Object) (handle : Option HandleValue) (place encoder number : ℕ) → slice_get objects place ≡ Some (object.Pass encoder number)
+    → slice_get (with_kept limits objects handle) place ≡ Some (object.Pass encoder number)
+made_pass limits objects None place encoder number e = e
+made_pass limits objects (Some handle) place encoder number e = at_append objects (object_of limits handle ∷ []) place (object.Pass encoder number) e
 
 -- ---- a call of a canvas
 
@@ -157,33 +159,33 @@ Owns first (Record on command made) = Unit {0}
 Owns first (Ask request made) = EndsOwn first (ended_by request)
 Owns first (Canvas call made) = Unit {0}
 
-pub call_keeps : (serial : ℕ) (sight : Sight) (call : BoundCall) (answer : Answer) (place : ℕ) (r : RecorderValue) → Owns sight.first call → recorder_at sight.own place ≡ Some r
-    → Kept (after_call serial sight (call, answer)).own place (finishes (sight.first + place) call) r
-call_keeps serial sight (Record on command made) answer place r owns e =
+pub call_keeps : (setup : Setup) (sight : Sight) (call : BoundCall) (answer : Answer) (place : ℕ) (r : RecorderValue) → Owns sight.first call → recorder_at sight.own place ≡ Some r
+    → Kept (after_call setup sight (call, answer)).own place (finishes (sight.first + place) call) r
+call_keeps setup sight (Record on command made) answer place r owns e =
     let stand : Stand = stand_seen sight on in
     let found : Command = command_seen sight command in
-    subst (λ (s : Sight). Kept s.own place false r) (sym (after_record serial sight on command made answer))
+    subst (λ (s : Sight). Kept s.own place false r) (sym (after_record setup sight on command made answer))
     (kept_append (recorded_on sight.own stand found) (begun_by sight.own stand.encoder found made) place false r (recorded_kept sight.own stand found place r e))
-call_keeps serial sight (Ask request made) answer place r owns e =
-    subst (λ (s : Sight). Kept s.own place (finishes (sight.first + place) (Ask request made)) r) (sym (after_ask serial sight request made answer))
-    (made_kept (ended_on sight (ended_by request)) (handle_kept serial sight request made answer) place (finishes (sight.first + place) (Ask request made)) r
+call_keeps setup sight (Ask request made) answer place r owns e =
+    subst (λ (s : Sight). Kept s.own place (finishes (sight.first + place) (Ask request made)) r) (sym (after_ask setup sight request made answer))
+    (made_kept setup.limits (ended_on sight (ended_by request)) (handle_kept setup sight request made answer) place (finishes (sight.first + place) (Ask request made)) r
     (ended_kept sight (ended_by request) place r owns e))
-call_keeps serial sight (Canvas call made) answer place r owns e =
-    subst (λ (s : Sight). Kept s.own place false r) (sym (after_canvas serial sight call made answer))
-    (drawn_kept sight call made (given_by serial (canvas_asks sight call) answer) place r e)
+call_keeps setup sight (Canvas call made) answer place r owns e =
+    subst (λ (s : Sight). Kept s.own place false r) (sym (after_canvas setup sight call made answer))
+    (drawn_kept sight call made (given_by setup (canvas_asks sight call) answer) place r e)
 
-pub call_leaves : (serial : ℕ) (sight : Sight) (call : BoundCall) (answer : Answer) (place encoder number : ℕ) → slice_get sight.own place ≡ Some (object.Pass encoder number)
-    → slice_get (after_call serial sight (call, answer)).own place ≡ Some (object.Pass encoder number)
-call_leaves serial sight (Record on command made) answer place encoder number e =
+pub call_leaves : (setup : Setup) (sight : Sight) (call : BoundCall) (answer : Answer) (place encoder number : ℕ) → slice_get sight.own place ≡ Some (object.Pass encoder number)
+    → slice_get (after_call setup sight (call, answer)).own place ≡ Some (object.Pass encoder number)
+call_leaves setup sight (Record on command made) answer place encoder number e =
     let stand : Stand = stand_seen sight on in
     let found : Command = command_seen sight command in
-    ap (λ (s : Sight). slice_get s.own place) (after_record serial sight on command made answer)
+    ap (λ (s : Sight). slice_get s.own place) (after_record setup sight on command made answer)
     ∙ at_append (recorded_on sight.own stand found) (begun_by sight.own stand.encoder found made) place (object.Pass encoder number)
     (pass_with (recorded_by stand.on found) sight.own stand.encoder place encoder number e)
-call_leaves serial sight (Ask request made) answer place encoder number e =
-    ap (λ (s : Sight). slice_get s.own place) (after_ask serial sight request made answer)
-    ∙ made_pass (ended_on sight (ended_by request)) (handle_kept serial sight request made answer) place encoder number
+call_leaves setup sight (Ask request made) answer place encoder number e =
+    ap (λ (s : Sight). slice_get s.own place) (after_ask setup sight request made answer)
+    ∙ made_pass setup.limits (ended_on sight (ended_by request)) (handle_kept setup sight request made answer) place encoder number
     (ended_pass sight (ended_by request) place encoder number e)
-call_leaves serial sight (Canvas call made) answer place encoder number e =
-    ap (λ (s : Sight). slice_get s.own place) (after_canvas serial sight call made answer)
-    ∙ drawn_pass sight call made (given_by serial (canvas_asks sight call) answer) place encoder number e
+call_leaves setup sight (Canvas call made) answer place encoder number e =
+    ap (λ (s : Sight). slice_get s.own place) (after_canvas setup sight call made answer)
+    ∙ drawn_pass sight call made (given_by setup (canvas_asks sight call) answer) place encoder number e

@@ -22,6 +22,7 @@ pub mod KeptLaw
 pub mod Backward
 pub mod Running
 pub mod Makers
+pub mod Judged
 pub mod Currents
 pub mod Encoders
 pub mod PlayedPhases

@@ -99,43 +99,43 @@ made_among (call ∷ plays) m there = elim (Contains-append_cases (made_by call.
       record { maker = rest.maker; is_there = Contains-append_right (call ∷ []) plays rest.maker rest.is_there; makes = rest.makes }
 ]
 
-pub lane_length : (serial : ℕ) (calls : List PlayedCall) (sight : Sight) → All IsAnsweredCall (map with_answer calls)
-    → length (after_calls serial sight (map with_answer calls)).own ≡ length sight.own + length (made_in (calls_in calls))
-lane_length serial [] sight all = omega arith
-lane_length serial (call ∷ calls) sight all =
-    let after : Sight = after_call serial sight (with_answer call) in
+pub lane_length : (setup : Setup) (calls : List PlayedCall) (sight : Sight) → All IsAnsweredCall (map with_answer calls)
+    → length (after_calls setup sight (map with_answer calls)).own ≡ length sight.own + length (made_in (calls_in calls))
+lane_length setup [] sight all = omega arith
+lane_length setup (call ∷ calls) sight all =
+    let after : Sight = after_call setup sight (with_answer call) in
     let one : length after.own ≡ length sight.own + length (made_by call.0)
-    = call_length serial sight call.0 (with_answer call).1 (All-head IsAnsweredCall (with_answer call) (map with_answer calls) all) in
-    let rest = lane_length serial calls after (All-tail IsAnsweredCall (with_answer call) (map with_answer calls) all) in
+    = call_length setup sight call.0 (with_answer call).1 (All-head IsAnsweredCall (with_answer call) (map with_answer calls) all) in
+    let rest = lane_length setup calls after (All-tail IsAnsweredCall (with_answer call) (map with_answer calls) all) in
     let both : length (made_by call.0 ++ made_in (calls_in calls)) ≡ length (made_by call.0) + length (made_in (calls_in calls))
     = length-append (made_by call.0) (made_in (calls_in calls)) in
     omega (arith, one, rest, both)
 
 -- ---- the handle of what a call made
 
-abbrev pub IsAnswer : ℕ → Answer → HandleValue → Type 0
-IsAnswer serial answer handle = (handle.reference.device ≡ serial) × (answer ≡ Made handle.reference.number handle.valid)
+abbrev pub IsAnswer : Setup → Answer → HandleValue → Type 0
+IsAnswer setup answer handle = (handle.reference.device ≡ setup.serial) × (answer ≡ Made handle.reference.number handle.valid)
 
 -- that of an object is of its entry, and so is that of the texture of a canvas which was made by one
-abbrev pub IsFromCanvas : ℕ → HandleValue → CanvasOf ℕ → Option Entry → Type 0
-IsFromCanvas serial handle (Create width height) found = Unit {0}
-IsFromCanvas serial handle (On canvas call) None = Unit {0}
-IsFromCanvas serial handle (On canvas call) (Some entry) = IsAnswer serial entry.reply.answer handle
+abbrev pub IsFromCanvas : Setup → HandleValue → CanvasOf ℕ → Option Entry → Type 0
+IsFromCanvas setup handle (Create width height) found = Unit {0}
+IsFromCanvas setup handle (On canvas call) None = Unit {0}
+IsFromCanvas setup handle (On canvas call) (Some entry) = IsAnswer setup entry.reply.answer handle
 
-abbrev pub IsFrom : ℕ → HandleValue → BoundCall → Option Entry → Type 0
-IsFrom serial handle (Record on command made) found = Unit {0}
-IsFrom serial handle (Ask request made) None = ⊥
-IsFrom serial handle (Ask request made) (Some entry) = IsAnswer serial entry.reply.answer handle
-IsFrom serial handle (Canvas call made) found = IsFromCanvas serial handle call found
+abbrev pub IsFrom : Setup → HandleValue → BoundCall → Option Entry → Type 0
+IsFrom setup handle (Record on command made) found = Unit {0}
+IsFrom setup handle (Ask request made) None = ⊥
+IsFrom setup handle (Ask request made) (Some entry) = IsAnswer setup entry.reply.answer handle
+IsFrom setup handle (Canvas call made) found = IsFromCanvas setup handle call found
 
-pub record IsMadeAt (serial : ℕ) (objects : List Object) (place : ℕ) (maker : PlayedCall) : Type 0 where
+pub record IsMadeAt (setup : Setup) (objects : List Object) (place : ℕ) (maker : PlayedCall) : Type 0 where
   pub what : Object
   pub is : slice_get objects place ≡ Some what
-  pub of : IsFrom serial (handle_in what) maker.0 maker.1
+  pub of : IsFrom setup (handle_in what) maker.0 maker.1
 
-made_append : (serial : ℕ) (objects more : List Object) (place : ℕ) (maker : PlayedCall) → IsMadeAt serial objects place maker
-    → IsMadeAt serial (objects ++ more) place maker
-made_append serial objects more place maker was = record { what = was.what; is = at_append objects more place was.what was.is; of = was.of }
+made_append : (setup : Setup) (objects more : List Object) (place : ℕ) (maker : PlayedCall) → IsMadeAt setup objects place maker
+    → IsMadeAt setup (objects ++ more) place maker
+made_append setup objects more place maker was = record { what = was.what; is = at_append objects more place was.what was.is; of = was.of }
 
 same_handle : (change : RecorderValue → RecorderValue) (x : Object) → handle_in (changed x change) ≡ handle_in x
 same_handle change (object.Made handle recorder) = refl
@@ -143,153 +143,153 @@ same_handle change (object.Pass encoder number) = refl
 same_handle change (object.Canvas canvas) = refl
 same_handle change (object.Shown texture) = refl
 
-made_changed : (serial : ℕ) (change : RecorderValue → RecorderValue) (objects : List Object) (at place : ℕ) (maker : PlayedCall)
-    → IsMadeAt serial objects place maker → IsMadeAt serial (with_recorder objects at change) place maker
-made_changed serial change objects at place maker was = elim (cases_eq at place) [
-  | inl same ↦ subst (λ n. IsMadeAt serial (with_recorder objects n change) place maker) (sym same) (record {
+made_changed : (setup : Setup) (change : RecorderValue → RecorderValue) (objects : List Object) (at place : ℕ) (maker : PlayedCall)
+    → IsMadeAt setup objects place maker → IsMadeAt setup (with_recorder objects at change) place maker
+made_changed setup change objects at place maker was = elim (cases_eq at place) [
+  | inl same ↦ subst (λ n. IsMadeAt setup (with_recorder objects n change) place maker) (sym same) (record {
     what = changed was.what change;
     is = own_at change objects place ∙ ap (option_map (λ (x : Object). changed x change)) was.is;
-    of = subst (λ (h : HandleValue). IsFrom serial h maker.0 maker.1) (sym (same_handle change was.what)) was.of;
+    of = subst (λ (h : HandleValue). IsFrom setup h maker.0 maker.1) (sym (same_handle change was.what)) was.of;
   })
   | inr differs ↦ record { what = was.what; is = other_at change objects at place differs ∙ was.is; of = was.of }
 ]
 
-ended_made : (serial : ℕ) (sight : Sight) (ended : Option ℕ) (place : ℕ) (maker : PlayedCall) → IsMadeAt serial sight.own place maker
-    → IsMadeAt serial (ended_on sight ended) place maker
-ended_made serial sight None place maker was = was
-ended_made serial sight (Some encoder) place maker was = made_changed serial taken_out sight.own (place_in sight encoder) place maker was
+ended_made : (setup : Setup) (sight : Sight) (ended : Option ℕ) (place : ℕ) (maker : PlayedCall) → IsMadeAt setup sight.own place maker
+    → IsMadeAt setup (ended_on sight ended) place maker
+ended_made setup sight None place maker was = was
+ended_made setup sight (Some encoder) place maker was = made_changed setup taken_out sight.own (place_in sight encoder) place maker was
 
-kept_made : (serial : ℕ) (objects : List Object) (handle : Option HandleValue) (place : ℕ) (maker : PlayedCall) → IsMadeAt serial objects place maker
-    → IsMadeAt serial (with_kept objects handle) place maker
-kept_made serial objects None place maker was = was
-kept_made serial objects (Some handle) place maker was = made_append serial objects (object_of handle ∷ []) place maker was
+kept_made : (setup : Setup) (objects : List Object) (handle : Option HandleValue) (place : ℕ) (maker : PlayedCall) → IsMadeAt setup objects place maker
+    → IsMadeAt setup (with_kept setup.limits objects handle) place maker
+kept_made setup objects None place maker was = was
+kept_made setup objects (Some handle) place maker was = made_append setup objects (object_of setup.limits handle ∷ []) place maker was
 
-made_redrawn : (serial : ℕ) (change : CanvasValue → CanvasValue) (objects : List Object) (at place : ℕ) (maker : PlayedCall)
-    → IsMadeAt serial objects place maker → IsMadeAt serial (with_canvas objects at change) place maker
-made_redrawn serial change objects at place maker was = elim (cases_eq at place) [
-  | inl same ↦ subst (λ n. IsMadeAt serial (with_canvas objects n change) place maker) (sym same) (record {
+made_redrawn : (setup : Setup) (change : CanvasValue → CanvasValue) (objects : List Object) (at place : ℕ) (maker : PlayedCall)
+    → IsMadeAt setup objects place maker → IsMadeAt setup (with_canvas objects at change) place maker
+made_redrawn setup change objects at place maker was = elim (cases_eq at place) [
+  | inl same ↦ subst (λ n. IsMadeAt setup (with_canvas objects n change) place maker) (sym same) (record {
     what = redrawn was.what change;
     is = redrawn_own change objects place ∙ ap (option_map (λ (x : Object). redrawn x change)) was.is;
-    of = subst (λ (h : HandleValue). IsFrom serial h maker.0 maker.1) (sym (redrawn_handle change was.what)) was.of;
+    of = subst (λ (h : HandleValue). IsFrom setup h maker.0 maker.1) (sym (redrawn_handle change was.what)) was.of;
   })
   | inr differs ↦ record { what = was.what; is = redrawn_other change objects at place differs ∙ was.is; of = was.of }
 ]
 
-drawn_made : (serial : ℕ) (sight : Sight) (call : CanvasOf ℕ) (made : Option ℕ) (given : Option HandleValue) (place : ℕ) (maker : PlayedCall)
-    → IsMadeAt serial sight.own place maker → IsMadeAt serial (drawn sight call made given).own place maker
-drawn_made serial sight (Create width height) made given place maker was = made_append serial sight.own (new_canvas width height made) place maker was
-drawn_made serial sight (On canvas call) made given place maker was =
+drawn_made : (setup : Setup) (sight : Sight) (call : CanvasOf ℕ) (made : Option ℕ) (given : Option HandleValue) (place : ℕ) (maker : PlayedCall)
+    → IsMadeAt setup sight.own place maker → IsMadeAt setup (drawn sight call made given).own place maker
+drawn_made setup sight (Create width height) made given place maker was = made_append setup sight.own (new_canvas width height made) place maker was
+drawn_made setup sight (On canvas call) made given place maker was =
     let at : ℕ = place_in sight canvas in
     let objects : List Object = acted_at sight.own at call given in
-    made_append serial objects (shown_at objects at call made) place maker (made_redrawn serial (λ found. acted found call given) sight.own at place maker was)
+    made_append setup objects (shown_at objects at call made) place maker (made_redrawn setup (λ found. acted found call given) sight.own at place maker was)
 
 -- The texture that a currentTexture shows which asks for one was made by its answer.
 
 abbrev kept_if : Sight → Option (RequestOf HandleValue) → Option Sight
 kept_if new asked = option_map_or (λ (request : RequestOf HandleValue). None) asked (Some new)
 
-made_from : (serial : ℕ) (setting : Setting) (known : TextureInfo) (answer : Answer) → is_made answer ≡ true
-    → IsAnswer serial answer (unwrap_or (texture_at (option_map_or (filled_at (Empty setting)) (handle_of serial (info.Texture known) answer) (Empty setting))) unknown)
-made_from serial setting known (Made number valid) made = (refl, refl)
-made_from serial setting known (Queued op) made = absurd (cc (made))
-made_from serial setting known Promised made = absurd (cc (made))
-made_from serial setting known Plain made = absurd (cc (made))
-made_from serial setting known BadCompletion made = absurd (cc (made))
+made_from : (setup : Setup) (setting : Setting) (known : TextureInfo) (answer : Answer) → is_made answer ≡ true
+    → IsAnswer setup answer (unwrap_or (texture_at (option_map_or (filled_at (Empty setting)) (handle_of setup.serial (info.Texture known) answer) (Empty setting))) unknown)
+made_from setup setting known (Made number valid) made = (refl, refl)
+made_from setup setting known (Queued op) made = absurd (cc (made))
+made_from setup setting known Promised made = absurd (cc (made))
+made_from setup setting known Plain made = absurd (cc (made))
+made_from setup setting known BadCompletion made = absurd (cc (made))
 
-stage_from : (serial : ℕ) (new : Sight) (canvas : CanvasValue) (answer : Answer) (stage : Stage) → kept_if new (stage_asked canvas stage) ≡ None → is_made answer ≡ true
-    → IsAnswer serial answer (unwrap_or (texture_at (option_map_or (filled_at stage) (given_by serial (stage_asked canvas stage) answer) stage)) unknown)
-stage_from serial new canvas answer Unset unkept made = absurd (cc (unkept))
-stage_from serial new canvas answer (Empty setting) unkept made = made_from serial setting (info_of canvas setting) answer made
-stage_from serial new canvas answer (Filled setting texture) unkept made = absurd (cc (unkept))
+stage_from : (setup : Setup) (new : Sight) (canvas : CanvasValue) (answer : Answer) (stage : Stage) → kept_if new (stage_asked canvas stage) ≡ None → is_made answer ≡ true
+    → IsAnswer setup answer (unwrap_or (texture_at (option_map_or (filled_at stage) (given_by setup (stage_asked canvas stage) answer) stage)) unknown)
+stage_from setup new canvas answer Unset unkept made = absurd (cc (unkept))
+stage_from setup new canvas answer (Empty setting) unkept made = made_from setup setting (info_of canvas setting) answer made
+stage_from setup new canvas answer (Filled setting texture) unkept made = absurd (cc (unkept))
 
-canvas_from : (serial : ℕ) (new : Sight) (found : Option CanvasValue) (answer : Answer) → kept_if new (option_and_then (λ c. act_asked c Current) found) ≡ None → is_made answer ≡ true
-    → IsAnswer serial answer (unwrap_or (option_and_then texture_of (option_map (λ c. acted c Current (given_by serial (option_and_then (λ c. act_asked c Current) found) answer)) found)) unknown)
-canvas_from serial new None answer unkept made = absurd (cc (unkept))
-canvas_from serial new (Some canvas) answer unkept made =
-    subst (λ (stage : Stage). IsAnswer serial answer (unwrap_or (texture_at stage) unknown)) (sym (stage_filled canvas (given_by serial (texture_asked canvas) answer)))
-    (stage_from serial new canvas answer canvas.stage unkept made)
+canvas_from : (setup : Setup) (new : Sight) (found : Option CanvasValue) (answer : Answer) → kept_if new (option_and_then (λ c. act_asked c Current) found) ≡ None → is_made answer ≡ true
+    → IsAnswer setup answer (unwrap_or (option_and_then texture_of (option_map (λ c. acted c Current (given_by setup (option_and_then (λ c. act_asked c Current) found) answer)) found)) unknown)
+canvas_from setup new None answer unkept made = absurd (cc (unkept))
+canvas_from setup new (Some canvas) answer unkept made =
+    subst (λ (stage : Stage). IsAnswer setup answer (unwrap_or (texture_at stage) unknown)) (sym (stage_filled canvas (given_by setup (texture_asked canvas) answer)))
+    (stage_from setup new canvas answer canvas.stage unkept made)
 
-shown_from : (serial : ℕ) (sight new : Sight) (place : ℕ) (answer : Answer) → kept_if new (canvas_asked sight.own place Current) ≡ None → is_made answer ≡ true
-    → IsAnswer serial answer (unwrap_or (option_and_then texture_of (canvas_at (acted_at sight.own place Current (given_by serial (canvas_asked sight.own place Current) answer)) place)) unknown)
-shown_from serial sight new place answer unkept made =
-    subst (λ (found : Option CanvasValue). IsAnswer serial answer (unwrap_or (option_and_then texture_of found) unknown))
-    (sym (own_canvas (λ c. acted c Current (given_by serial (canvas_asked sight.own place Current) answer)) sight.own place))
-    (canvas_from serial new (canvas_at sight.own place) answer unkept made)
+shown_from : (setup : Setup) (sight new : Sight) (place : ℕ) (answer : Answer) → kept_if new (canvas_asked sight.own place Current) ≡ None → is_made answer ≡ true
+    → IsAnswer setup answer (unwrap_or (option_and_then texture_of (canvas_at (acted_at sight.own place Current (given_by setup (canvas_asked sight.own place Current) answer)) place)) unknown)
+shown_from setup sight new place answer unkept made =
+    subst (λ (found : Option CanvasValue). IsAnswer setup answer (unwrap_or (option_and_then texture_of found) unknown))
+    (sym (own_canvas (λ c. acted c Current (given_by setup (canvas_asked sight.own place Current) answer)) sight.own place))
+    (canvas_from setup new (canvas_at sight.own place) answer unkept made)
 
 -- where a call became an entry, it was not kept, and the entry was answered as it must be
 SentAs : Sight → BoundCall → Option Entry → Type 0
 SentAs sight call found = (entry : Entry) → found ≡ Some entry → (kept sight call ≡ None) × IsAnswerTo call entry.reply.answer
 
-current_from : (serial : ℕ) (sight : Sight) (canvas name : ℕ) (found : Option Entry) → SentAs sight (Canvas (On canvas Current) (Some name)) found
-    → IsFromCanvas serial (unwrap_or (option_and_then texture_of (canvas_at (acted_at sight.own (place_in sight canvas) Current
-    (given_by serial (canvas_asked sight.own (place_in sight canvas) Current) (with_answer (Canvas (On canvas Current) (Some name), found)).1)) (place_in sight canvas))) unknown) (On canvas Current) found
+current_from : (setup : Setup) (sight : Sight) (canvas name : ℕ) (found : Option Entry) → SentAs sight (Canvas (On canvas Current) (Some name)) found
+    → IsFromCanvas setup (unwrap_or (option_and_then texture_of (canvas_at (acted_at sight.own (place_in sight canvas) Current
+    (given_by setup (canvas_asked sight.own (place_in sight canvas) Current) (with_answer (Canvas (On canvas Current) (Some name), found)).1)) (place_in sight canvas))) unknown) (On canvas Current) found
 unfolding SentAs
-current_from serial sight canvas name None sent = tt
-current_from serial sight canvas name (Some entry) sent =
+current_from setup sight canvas name None sent = tt
+current_from setup sight canvas name (Some entry) sent =
     let as_sent = sent entry refl in
-    shown_from serial sight (drawn sight (On canvas Current) (Some name) None) (place_in sight canvas) entry.reply.answer as_sent.0 (as_sent.1 refl)
+    shown_from setup sight (drawn sight (On canvas Current) (Some name) None) (place_in sight canvas) entry.reply.answer as_sent.0 (as_sent.1 refl)
 
 -- what a call of a canvas makes stands at the next place
-drawn_new : (serial : ℕ) (sight : Sight) (call : CanvasOf ℕ) (made : Option ℕ) (found : Option Entry) (slot : ℕ) (k : Kind) → SentAs sight (Canvas call made) found
+drawn_new : (setup : Setup) (sight : Sight) (call : CanvasOf ℕ) (made : Option ℕ) (found : Option Entry) (slot : ℕ) (k : Kind) → SentAs sight (Canvas call made) found
     → made_of (Canvas call made) ≡ Some (slot, k)
-    → IsMadeAt serial (drawn sight call made (given_by serial (canvas_asks sight call) (with_answer (Canvas call made, found)).1)).own (length sight.own) (Canvas call made, found)
-drawn_new serial sight call None found slot k sent e = absurd (cc (e))
-drawn_new serial sight (Create width height) (Some name) found slot k sent e =
+    → IsMadeAt setup (drawn sight call made (given_by setup (canvas_asks sight call) (with_answer (Canvas call made, found)).1)).own (length sight.own) (Canvas call made, found)
+drawn_new setup sight call None found slot k sent e = absurd (cc (e))
+drawn_new setup sight (Create width height) (Some name) found slot k sent e =
     let new : Object = object.Canvas (record { width = width; height = height; stage = Unset }) in
     record { what = new; is = at_new sight.own new; of = tt }
-drawn_new serial sight (On canvas (Configure format usage)) (Some name) found slot k sent e = absurd (cc (e))
-drawn_new serial sight (On canvas Current) (Some name) found slot k sent e =
+drawn_new setup sight (On canvas (Configure format usage)) (Some name) found slot k sent e = absurd (cc (e))
+drawn_new setup sight (On canvas Current) (Some name) found slot k sent e =
     let at : ℕ = place_in sight canvas in
-    let given : Option HandleValue = given_by serial (canvas_asked sight.own at Current) (with_answer (Canvas (On canvas Current) (Some name), found)).1 in
+    let given : Option HandleValue = given_by setup (canvas_asked sight.own at Current) (with_answer (Canvas (On canvas Current) (Some name), found)).1 in
     let objects : List Object = acted_at sight.own at Current given in
     let new : Object = object.Shown (option_and_then texture_of (canvas_at objects at)) in
     let count : length objects ≡ length sight.own = redrawn_length (λ c. acted c Current given) sight.own at in
     record {
       what = new;
       is = subst (λ n. slice_get (objects ++ new ∷ []) n ≡ Some new) count (at_new objects new);
-      of = current_from serial sight canvas name found sent;
+      of = current_from setup sight canvas name found sent;
     }
-drawn_new serial sight (On canvas Present) (Some name) found slot k sent e = absurd (cc (e))
+drawn_new setup sight (On canvas Present) (Some name) found slot k sent e = absurd (cc (e))
 
 -- it stays where it is
-call_leaves : (serial : ℕ) (sight : Sight) (call : BoundCall) (answer : Answer) (place : ℕ) (maker : PlayedCall) → IsMadeAt serial sight.own place maker
-    → IsMadeAt serial (after_call serial sight (call, answer)).own place maker
-call_leaves serial sight (Record on command made) answer place maker was =
+call_leaves : (setup : Setup) (sight : Sight) (call : BoundCall) (answer : Answer) (place : ℕ) (maker : PlayedCall) → IsMadeAt setup sight.own place maker
+    → IsMadeAt setup (after_call setup sight (call, answer)).own place maker
+call_leaves setup sight (Record on command made) answer place maker was =
     let stand : Stand = stand_seen sight on in
     let found : Command = command_seen sight command in
-    subst (λ (s : Sight). IsMadeAt serial s.own place maker) (sym (after_record serial sight on command made answer))
-    (made_append serial (recorded_on sight.own stand found) (begun_by sight.own stand.encoder found made) place maker
-    (made_changed serial (recorded_by stand.on found) sight.own stand.encoder place maker was))
-call_leaves serial sight (Ask request made) answer place maker was =
-    subst (λ (s : Sight). IsMadeAt serial s.own place maker) (sym (after_ask serial sight request made answer))
-    (kept_made serial (ended_on sight (ended_by request)) (handle_kept serial sight request made answer) place maker
-    (ended_made serial sight (ended_by request) place maker was))
-call_leaves serial sight (Canvas call made) answer place maker was =
-    subst (λ (s : Sight). IsMadeAt serial s.own place maker) (sym (after_canvas serial sight call made answer))
-    (drawn_made serial sight call made (given_by serial (canvas_asks sight call) answer) place maker was)
+    subst (λ (s : Sight). IsMadeAt setup s.own place maker) (sym (after_record setup sight on command made answer))
+    (made_append setup (recorded_on sight.own stand found) (begun_by sight.own stand.encoder found made) place maker
+    (made_changed setup (recorded_by stand.on found) sight.own stand.encoder place maker was))
+call_leaves setup sight (Ask request made) answer place maker was =
+    subst (λ (s : Sight). IsMadeAt setup s.own place maker) (sym (after_ask setup sight request made answer))
+    (kept_made setup (ended_on sight (ended_by request)) (handle_kept setup sight request made answer) place maker
+    (ended_made setup sight (ended_by request) place maker was))
+call_leaves setup sight (Canvas call made) answer place maker was =
+    subst (λ (s : Sight). IsMadeAt setup s.own place maker) (sym (after_canvas setup sight call made answer))
+    (drawn_made setup sight call made (given_by setup (canvas_asks sight call) answer) place maker was)
 
-pub handle_from : (serial : ℕ) (known : Info) (answer : Answer) (handle : HandleValue) → handle_of serial known answer ≡ Some handle
-    → IsAnswer serial answer handle
-handle_from serial known (Made number valid) handle e =
-    let new : HandleValue = record { reference = record { device = serial; number = number }; valid = valid; info = known } in
+pub handle_from : (setup : Setup) (known : Info) (answer : Answer) (handle : HandleValue) → handle_of setup.serial known answer ≡ Some handle
+    → IsAnswer setup answer handle
+handle_from setup known (Made number valid) handle e =
+    let new : HandleValue = record { reference = record { device = setup.serial; number = number }; valid = valid; info = known } in
     let same : new ≡ handle = cc (e) in
-    subst (IsAnswer serial (Made number valid)) same (refl, refl)
-handle_from serial known (Queued op) handle e = absurd (cc (e))
-handle_from serial known Promised handle e = absurd (cc (e))
-handle_from serial known Plain handle e = absurd (cc (e))
-handle_from serial known BadCompletion handle e = absurd (cc (e))
+    subst (IsAnswer setup (Made number valid)) same (refl, refl)
+handle_from setup known (Queued op) handle e = absurd (cc (e))
+handle_from setup known Promised handle e = absurd (cc (e))
+handle_from setup known Plain handle e = absurd (cc (e))
+handle_from setup known BadCompletion handle e = absurd (cc (e))
 
-kept_from : (serial : ℕ) (known : Option Info) (answer : Answer) (made : Option ℕ) (handle : HandleValue)
-    → option_and_then (λ (slot : ℕ). handle_known serial known answer) made ≡ Some handle → IsAnswer serial answer handle
-kept_from serial known answer None handle e = absurd (cc (e))
-kept_from serial None answer (Some slot) handle e = absurd (cc (e))
-kept_from serial (Some x) answer (Some slot) handle e = handle_from serial x answer handle e
+pub kept_from : (setup : Setup) (known : Option Info) (answer : Answer) (made : Option ℕ) (handle : HandleValue)
+    → option_and_then (λ (slot : ℕ). handle_known setup known answer) made ≡ Some handle → IsAnswer setup answer handle
+kept_from setup known answer None handle e = absurd (cc (e))
+kept_from setup None answer (Some slot) handle e = absurd (cc (e))
+kept_from setup (Some x) answer (Some slot) handle e = handle_from setup x answer handle e
 
-new_made : (serial : ℕ) (objects : List Object) (handle : Option HandleValue) (slot : ℕ) (k : Kind) (maker : PlayedCall) → FitsSlot handle (Some (slot, k))
-    → ((h : HandleValue) → handle ≡ Some h → IsFrom serial h maker.0 maker.1) → IsMadeAt serial (with_kept objects handle) (length objects) maker
-new_made serial objects None slot k maker fits from = absurd fits
-new_made serial objects (Some handle) slot k maker fits from =
-    record { what = object_of handle; is = at_new objects (object_of handle); of = from handle refl }
+new_made : (setup : Setup) (objects : List Object) (handle : Option HandleValue) (slot : ℕ) (k : Kind) (maker : PlayedCall) → FitsSlot handle (Some (slot, k))
+    → ((h : HandleValue) → handle ≡ Some h → IsFrom setup h maker.0 maker.1) → IsMadeAt setup (with_kept setup.limits objects handle) (length objects) maker
+new_made setup objects None slot k maker fits from = absurd fits
+new_made setup objects (Some handle) slot k maker fits from =
+    record { what = object_of setup.limits handle; is = at_new objects (object_of setup.limits handle); of = from handle refl }
 
 module _ (setup : Setup) where
   sent_as : (sight : Sight) (call : BoundCall) (found : Option Entry) → RunsAs setup sight call found → SentAs sight call found
@@ -300,59 +300,59 @@ module _ (setup : Setup) where
 
   -- and what a call has made stands at the next place
   call_new : (sight : Sight) (call : BoundCall) (found : Option Entry) (slot : ℕ) (k : Kind) → RunsAs setup sight call found → made_of call ≡ Some (slot, k)
-      → IsMadeAt setup.serial (after_call setup.serial sight (with_answer (call, found))).own (length sight.own) (call, found)
+      → IsMadeAt setup (after_call setup sight (with_answer (call, found))).own (length sight.own) (call, found)
   call_new sight (Record on command made) found slot k runs e =
-      let there = call_makes setup.serial sight (Record on command made) (with_answer (Record on command made, found)).1 slot k tt tt e in
+      let there = call_makes setup sight (Record on command made) (with_answer (Record on command made, found)).1 slot k tt tt e in
       record { what = there.what; is = there.is; of = tt }
   call_new sight (Ask request made) None slot k runs e = absurd (cc (runs))
   call_new sight (Ask request made) (Some entry) slot k runs e =
       let answer : Answer = entry.reply.answer in
-      let handle : Option HandleValue = handle_kept setup.serial sight request made answer in
+      let handle : Option HandleValue = handle_kept setup sight request made answer in
       let fits : FitsSlot handle (Some (slot, k)) = subst (FitsSlot handle) e
-      (handle_fits setup.serial sight request made answer (call_answered setup sight (Ask request made, Some entry) runs)) in
-      subst (λ (s : Sight). IsMadeAt setup.serial s.own (length sight.own) (Ask request made, Some entry))
-      (sym (after_ask setup.serial sight request made answer))
-      (subst (λ n. IsMadeAt setup.serial (with_kept (ended_on sight (ended_by request)) handle) n (Ask request made, Some entry))
+      (handle_fits setup sight request made answer (call_answered setup sight (Ask request made, Some entry) runs)) in
+      subst (λ (s : Sight). IsMadeAt setup s.own (length sight.own) (Ask request made, Some entry))
+      (sym (after_ask setup sight request made answer))
+      (subst (λ n. IsMadeAt setup (with_kept setup.limits (ended_on sight (ended_by request)) handle) n (Ask request made, Some entry))
       (ended_length sight (ended_by request))
-      (new_made setup.serial (ended_on sight (ended_by request)) handle slot k (Ask request made, Some entry) fits
-      (λ h x. kept_from setup.serial (info_sent sight request) answer made h x)))
+      (new_made setup (ended_on sight (ended_by request)) handle slot k (Ask request made, Some entry) fits
+      (λ h x. kept_from setup (info_sent sight request) answer made h x)))
   call_new sight (Canvas call made) found slot k runs e =
       let answer : Answer = (with_answer (Canvas call made, found)).1 in
-      subst (λ (s : Sight). IsMadeAt setup.serial s.own (length sight.own) (Canvas call made, found)) (sym (after_canvas setup.serial sight call made answer))
-      (drawn_new setup.serial sight call made found slot k (sent_as sight (Canvas call made) found runs) e)
+      subst (λ (s : Sight). IsMadeAt setup s.own (length sight.own) (Canvas call made, found)) (sym (after_canvas setup sight call made answer))
+      (drawn_new setup sight call made found slot k (sent_as sight (Canvas call made) found runs) e)
 
   -- ---- calls of a lane, one after another
 
   abbrev pub MadeFrom : ℕ → List Object → List PlayedCall → Type 0
   MadeFrom first own plays = (maker : PlayedCall) (slot : ℕ) (k : Kind) → Contains plays maker → made_of maker.0 ≡ Some (slot, k)
-      → IsMadeAt setup.serial own (slot - first) maker
+      → IsMadeAt setup own (slot - first) maker
 
   pub none_made : (first : ℕ) → MadeFrom first [] []
   none_made first = λ maker slot k there makes. absurd (omega (arith, there.1))
 
   one_made : (sight : Sight) (before : List PlayedCall) (call : PlayedCall) → MadeFrom sight.first sight.own before → RunsAs setup sight call.0 call.1
       → ((m : ℕ × Kind) → made_of call.0 ≡ Some m → m.0 ≡ sight.first + length sight.own)
-      → MadeFrom sight.first (after_call setup.serial sight (with_answer call)).own (before ++ call ∷ [])
+      → MadeFrom sight.first (after_call setup sight (with_answer call)).own (before ++ call ∷ [])
   one_made sight before call was runs here = λ maker slot k there makes. elim (Contains-push_cases before call maker there) [
-    | inl old ↦ call_leaves setup.serial sight call.0 (with_answer call).1 (slot - sight.first) maker (was maker slot k old makes)
-    | inr same ↦ let own : List Object = (after_call setup.serial sight (with_answer call)).own in
+    | inl old ↦ call_leaves setup sight call.0 (with_answer call).1 (slot - sight.first) maker (was maker slot k old makes)
+    | inr same ↦ let own : List Object = (after_call setup sight (with_answer call)).own in
         let is : made_of call.0 ≡ Some (slot, k) = ap (λ (c : PlayedCall). made_of c.0) same ∙ makes in
         let next : slot ≡ sight.first + length sight.own = here (slot, k) is in
         let place : length sight.own ≡ slot - sight.first = omega (arith, next) in
-        subst (λ n. IsMadeAt setup.serial own n maker) place
-        (subst (λ (c : PlayedCall). IsMadeAt setup.serial own (length sight.own) c) same (call_new sight call.0 call.1 slot k runs is))
+        subst (λ n. IsMadeAt setup own n maker) place
+        (subst (λ (c : PlayedCall). IsMadeAt setup own (length sight.own) c) same (call_new sight call.0 call.1 slot k runs is))
   ]
 
   pub lane_made : (calls before : List PlayedCall) (sight : Sight) → MadeFrom sight.first sight.own before → Runs setup sight calls
       → AreFrom (sight.first + length sight.own) (slots_of (made_in (calls_in calls)))
-      → MadeFrom (after_calls setup.serial sight (map with_answer calls)).first (after_calls setup.serial sight (map with_answer calls)).own (before ++ calls)
+      → MadeFrom (after_calls setup sight (map with_answer calls)).first (after_calls setup sight (map with_answer calls)).own (before ++ calls)
   lane_made [] before sight was runs from = subst (λ cs. MadeFrom sight.first sight.own cs) (sym (append-nil before)) was
   lane_made (call ∷ calls) before sight was runs from =
-      let after : Sight = after_call setup.serial sight (with_answer call) in
-      let end : Sight = after_calls setup.serial after (map with_answer calls) in
+      let after : Sight = after_call setup sight (with_answer call) in
+      let end : Sight = after_calls setup after (map with_answer calls) in
       let answered : IsAnsweredCall (with_answer call) = call_answered setup sight call runs.0 in
-      let first_is : after.first ≡ sight.first = same_first setup.serial sight call.0 (with_answer call).1 in
-      let length_is : length after.own ≡ length sight.own + length (made_by call.0) = call_length setup.serial sight call.0 (with_answer call).1 answered in
+      let first_is : after.first ≡ sight.first = same_first setup sight call.0 (with_answer call).1 in
+      let length_is : length after.own ≡ length sight.own + length (made_by call.0) = call_length setup sight call.0 (with_answer call).1 answered in
       let grown : (sight.first + length sight.own) + length (made_by call.0) ≡ after.first + length after.own = omega (arith, first_is, length_is) in
       subst (λ cs. MadeFrom end.first end.own cs) (append_assoc before (call ∷ []) calls)
       (lane_made calls (before ++ call ∷ []) after
@@ -382,13 +382,13 @@ module _ (setup : Setup) where
   -- what calls have made stands at their slots
   abbrev pub MadeAll : List Object → List PlayedCall → Type 0
   MadeAll objects plays = (maker : PlayedCall) (slot : ℕ) (k : Kind) → Contains plays maker → made_of maker.0 ≡ Some (slot, k)
-      → IsMadeAt setup.serial objects slot maker
+      → IsMadeAt setup objects slot maker
 
   lane_joined : (objects own : List Object) (plays ours : List PlayedCall) → MadeAll objects plays → MadeFrom (length objects) own ours
       → AreFrom (length objects) (slots_of (made_in (calls_in ours)))
       → MadeAll (objects ++ own) (plays ++ ours)
   lane_joined objects own plays ours was made from = λ maker slot k there makes. elim (Contains-append_cases plays ours maker there) [
-    | inl old ↦ made_append setup.serial objects own slot maker (was maker slot k old makes)
+    | inl old ↦ made_append setup objects own slot maker (was maker slot k old makes)
     | inr new ↦ let le : length objects ≤ slot = at_least (length objects) (made_in (calls_in ours)) slot k from
         (maker_contains ours maker (slot, k) new makes) in
         let here = made maker slot k new makes in
@@ -398,31 +398,31 @@ module _ (setup : Setup) where
   pub lanes_joined : (others : List Object) (lanes : List (List PlayedCall)) (objects : List Object) (plays : List PlayedCall) → MadeAll objects plays
       → AllRun others (length objects) lanes
       → AreFrom (length objects) (slots_of (flat_map made_in (map calls_in lanes)))
-      → MadeAll (gathered objects (ended_from setup.serial others (length objects) (answered_lanes lanes))) (plays ++ flat_map (λ calls. calls) lanes)
+      → MadeAll (gathered objects (ended_from setup others (length objects) (answered_lanes lanes))) (plays ++ flat_map (λ calls. calls) lanes)
   lanes_joined others [] objects plays was runs from = subst (MadeAll objects) (sym (append-nil plays)) was
   lanes_joined others (calls ∷ lanes) objects plays was runs from =
       let first : ℕ = length objects in
       let start : Sight = start_at others first in
-      let sight : Sight = after_calls setup.serial start (map with_answer calls) in
+      let sight : Sight = after_calls setup start (map with_answer calls) in
       let ours : Slots = made_in (calls_in calls) in
       let rest : Slots = flat_map made_in (map calls_in lanes) in
       let numbers : AreFrom first (slots_of ours) = from_front first ours rest from in
       let zero_is : first ≡ first + 0 = omega arith in
       let numbers_start : AreFrom (first + 0) (slots_of ours) = subst (λ n. AreFrom n (slots_of ours)) zero_is numbers in
       let made : MadeFrom first sight.own calls
-      = subst (λ n. MadeFrom n sight.own calls) (first_after setup.serial (map with_answer calls) start)
+      = subst (λ n. MadeFrom n sight.own calls) (first_after setup (map with_answer calls) start)
       (lane_made calls [] start (none_made first) runs.0 numbers_start) in
       let same : made_in (map (λ (c : Answered). c.0) (map with_answer calls)) ≡ ours = ap (λ (cs : List BoundCall). made_in cs) (lane_same calls) in
-      let count : length sight.own ≡ 0 + length ours = lane_length setup.serial calls start (lane_answered setup calls start runs.0) in
+      let count : length sight.own ≡ 0 + length ours = lane_length setup calls start (lane_answered setup calls start runs.0) in
       let more : length (objects ++ sight.own) ≡ length objects + length sight.own = length-append objects sight.own in
       let next : length (objects ++ sight.own) ≡ first + length ours = omega (arith, more, count) in
       let next_answered : length (objects ++ sight.own) ≡ first + count_made (map (λ (c : Answered). c.0) (map with_answer calls))
       = next ∙ ap (λ (ms : Slots). first + length ms) (sym same) in
-      let end : MadeAll (gathered (objects ++ sight.own) (ended_from setup.serial others (length (objects ++ sight.own)) (answered_lanes lanes)))
+      let end : MadeAll (gathered (objects ++ sight.own) (ended_from setup others (length (objects ++ sight.own)) (answered_lanes lanes)))
       ((plays ++ calls) ++ flat_map (λ cs. cs) lanes)
       = lanes_joined others lanes (objects ++ sight.own) (plays ++ calls) (lane_joined objects sight.own plays calls was made numbers)
       (subst (λ n. AllRun others n lanes) (sym next) runs.1) (subst (λ n. AreFrom n (slots_of rest)) (sym next) (from_back first ours rest from)) in
-      subst (λ n. MadeAll (gathered (objects ++ sight.own) (ended_from setup.serial others n (answered_lanes lanes)))
+      subst (λ n. MadeAll (gathered (objects ++ sight.own) (ended_from setup others n (answered_lanes lanes)))
       (plays ++ (calls ++ flat_map (λ cs. cs) lanes))) next_answered
-      (subst (MadeAll (gathered (objects ++ sight.own) (ended_from setup.serial others (length (objects ++ sight.own)) (answered_lanes lanes))))
+      (subst (MadeAll (gathered (objects ++ sight.own) (ended_from setup others (length (objects ++ sight.own)) (answered_lanes lanes))))
       (append_assoc plays calls (flat_map (λ cs. cs) lanes)) end)

@@ -6,6 +6,7 @@ use Rattle.std.proofs.lemmas.Bool.Decides.{nat_tests}
 use Rattle.std.proofs.lemmas.List.{length-append}
 use Rattle.wg_types.specs.Handles.{HandleValue}
 use Rattle.wg_types.specs.Kinds.{kind_of}
+use Rattle.wg_types.specs.declared.limits.Limits.{Limits}
 use Rattle.wg_types.specs.declared.handles.ObjRef.{ObjRef}
 use Rattle.wg_types.specs.declared.handles.Info.{Info}
 use Rattle.wg_types.specs.declared.handles.Info.TheVariants as info
@@ -27,6 +28,7 @@ use Rattle.wg_types.specs.declared.requests.RequestOf.{RequestOf}
 use Rattle.wg_types.specs.declared.requests.RequestOf.TheVariants.{CreateBuffer, CreateTexture, CreateView, CreateSampler, CreateBindGroupLayout, CreatePipelineLayout, CreateBindGroup, CreateComputePipeline, CreateRenderPipeline, GetBindGroupLayout, CreateQuerySet, CreateEncoder, CreateBundleEncoder, Finish, FinishBundle, Submit, WriteBuffer, WriteTexture, Destroy, Drop, Complete, PushErrorScope, PopErrorScope, Lose, WorkDone, MapAsync, Unmap}
 use Rattle.wg_canvas.specs.Canvases.{acted, texture_of}
 use Rattle.wg_encoder.specs.Recorders.{RecorderValue, has_taken}
+use Rattle.wg_history.specs.declared.events.Setup.{Setup}
 use Rattle.wg_calls.specs.Calls.{opened_for, opened_with}
 use Rattle.wg_script.specs.CallOf.{BoundCall}
 use Rattle.wg_script.specs.declared.calls.CallOf.TheVariants.{Record, Ask, Canvas}
@@ -79,25 +81,25 @@ drawn_length sight (On canvas call) made given =
     length-append objects (shown_at objects at call made)
     ∙ ap₂ (λ (m n : ℕ). m + n) (redrawn_length (λ found. acted found call given) sight.own at) (shown_length call made (option_and_then texture_of (canvas_at objects at)))
 
-pub call_length : (serial : ℕ) (sight : Sight) (call : BoundCall) (answer : Answer) → IsAnswerTo call answer
-    → length (after_call serial sight (call, answer)).own ≡ length sight.own + length (made_by call)
-call_length serial sight (Record on command made) answer answered =
+pub call_length : (setup : Setup) (sight : Sight) (call : BoundCall) (answer : Answer) → IsAnswerTo call answer
+    → length (after_call setup sight (call, answer)).own ≡ length sight.own + length (made_by call)
+call_length setup sight (Record on command made) answer answered =
     let stand : Stand = stand_seen sight on in
     let found : Command = command_seen sight command in
-    let one : length (after_call serial sight (Record on command made, answer)).own ≡ length (recorded_on sight.own stand found) + length (begun_by sight.own stand.encoder found made)
-    = ap (λ (s : Sight). length s.own) (after_record serial sight on command made answer) ∙ length-append (recorded_on sight.own stand found) (begun_by sight.own stand.encoder found made) in
+    let one : length (after_call setup sight (Record on command made, answer)).own ≡ length (recorded_on sight.own stand found) + length (begun_by sight.own stand.encoder found made)
+    = ap (λ (s : Sight). length s.own) (after_record setup sight on command made answer) ∙ length-append (recorded_on sight.own stand found) (begun_by sight.own stand.encoder found made) in
     let same : length (recorded_on sight.own stand found) ≡ length sight.own = length_with (recorded_by stand.on found) sight.own stand.encoder in
     let more : length (begun_by sight.own stand.encoder found made) ≡ length (made_by (Record on command made))
     = begun_length sight.own stand.encoder found made (kind_begun command) (begun_mapped (handle_in_sight sight) command) in
     one ∙ omega (arith, same, more)
-call_length serial sight (Ask request made) answer answered =
-    let one : length (after_call serial sight (Ask request made, answer)).own ≡ length (ended_on sight (ended_by request)) + length (made_by (Ask request made))
-    = ap (λ (s : Sight). length s.own) (after_ask serial sight request made answer)
-    ∙ fits_length (ended_on sight (ended_by request)) (handle_kept serial sight request made answer) (made_of (Ask request made)) (handle_fits serial sight request made answer answered) in
+call_length setup sight (Ask request made) answer answered =
+    let one : length (after_call setup sight (Ask request made, answer)).own ≡ length (ended_on sight (ended_by request)) + length (made_by (Ask request made))
+    = ap (λ (s : Sight). length s.own) (after_ask setup sight request made answer)
+    ∙ fits_length setup.limits (ended_on sight (ended_by request)) (handle_kept setup sight request made answer) (made_of (Ask request made)) (handle_fits setup sight request made answer answered) in
     let same : length (ended_on sight (ended_by request)) ≡ length sight.own = ended_length sight (ended_by request) in
     one ∙ omega (arith, same)
-call_length serial sight (Canvas call made) answer answered =
-    ap (λ (s : Sight). length s.own) (after_canvas serial sight call made answer) ∙ drawn_length sight call made (given_by serial (canvas_asks sight call) answer)
+call_length setup sight (Canvas call made) answer answered =
+    ap (λ (s : Sight). length s.own) (after_canvas setup sight call made answer) ∙ drawn_length sight call made (given_by setup (canvas_asks sight call) answer)
 
 -- ---- the encoder that a call makes
 
@@ -108,37 +110,37 @@ pub record Fresh (objects : List Object) (slot : ℕ) : Type 0 where
   pub unended : has_taken recorder ≡ false
 
 -- the recorder of an encoder that was made is open for it, and of its kind
-pub record Opens (reference : ObjRef) (known : Info) : Type 0 where
+pub record Opens (limits : Limits) (reference : ObjRef) (known : Info) : Type 0 where
   pub recorder : RecorderValue
-  pub is : recorder_of reference known ≡ Some recorder
+  pub is : recorder_of limits reference known ≡ Some recorder
   pub open_for : recorder.encoder ≡ Some reference
   pub kind_is : recorder_kind recorder ≡ kind_of known
   pub unended : has_taken recorder ≡ false
 
-pub opens : (reference : ObjRef) (known : Info) → has_recorder (kind_of known) ≡ true → Opens reference known
-opens reference info.Encoder e = record { recorder = opened_for reference; is = refl; open_for = refl; kind_is = refl; unended = refl }
-opens reference (info.BundleEncoder targets) e = record { recorder = opened_with targets reference; is = refl; open_for = refl; kind_is = refl; unended = refl }
-opens reference (info.Buffer known) e = absurd (cc)
-opens reference (info.Texture known) e = absurd (cc)
-opens reference (info.View known) e = absurd (cc)
-opens reference (info.Sampler known) e = absurd (cc)
-opens reference (info.GroupLayout known) e = absurd (cc)
-opens reference (info.PipelineLayout known) e = absurd (cc)
-opens reference (info.Group known) e = absurd (cc)
-opens reference (info.Compute known) e = absurd (cc)
-opens reference (info.Render known) e = absurd (cc)
-opens reference (info.Queries known) e = absurd (cc)
-opens reference info.CommandBuffer e = absurd (cc)
-opens reference (info.Bundle known) e = absurd (cc)
+pub opens : (limits : Limits) (reference : ObjRef) (known : Info) → has_recorder (kind_of known) ≡ true → Opens limits reference known
+opens limits reference info.Encoder e = record { recorder = opened_for limits reference; is = refl; open_for = refl; kind_is = refl; unended = refl }
+opens limits reference (info.BundleEncoder targets) e = record { recorder = opened_with limits targets reference; is = refl; open_for = refl; kind_is = refl; unended = refl }
+opens limits reference (info.Buffer known) e = absurd (cc)
+opens limits reference (info.Texture known) e = absurd (cc)
+opens limits reference (info.View known) e = absurd (cc)
+opens limits reference (info.Sampler known) e = absurd (cc)
+opens limits reference (info.GroupLayout known) e = absurd (cc)
+opens limits reference (info.PipelineLayout known) e = absurd (cc)
+opens limits reference (info.Group known) e = absurd (cc)
+opens limits reference (info.Compute known) e = absurd (cc)
+opens limits reference (info.Render known) e = absurd (cc)
+opens limits reference (info.Queries known) e = absurd (cc)
+opens limits reference info.CommandBuffer e = absurd (cc)
+opens limits reference (info.Bundle known) e = absurd (cc)
 
-encoder_new : (objects : List Object) (handle : Option HandleValue) (on : ℕ) (k : Kind) → has_recorder k ≡ true → FitsSlot handle (Some (on, k)) → ((h : HandleValue) → handle ≡ Some h → kind_of h.info ≡ k)
-    → Fresh (with_kept objects handle) (length objects)
-encoder_new objects None on k p fits kind = absurd fits
-encoder_new objects (Some handle) on k p fits kind =
-    let new = opens handle.reference handle.info (ap has_recorder (kind handle refl) ∙ p) in
+encoder_new : (limits : Limits) (objects : List Object) (handle : Option HandleValue) (on : ℕ) (k : Kind) → has_recorder k ≡ true → FitsSlot handle (Some (on, k)) → ((h : HandleValue) → handle ≡ Some h → kind_of h.info ≡ k)
+    → Fresh (with_kept limits objects handle) (length objects)
+encoder_new limits objects None on k p fits kind = absurd fits
+encoder_new limits objects (Some handle) on k p fits kind =
+    let new = opens limits handle.reference handle.info (ap has_recorder (kind handle refl) ∙ p) in
     record {
       recorder = new.recorder;
-      is = recorder_new objects (object_of handle) ∙ new.is;
+      is = recorder_new objects (object_of limits handle) ∙ new.is;
       unended = new.unended;
     }
 
@@ -171,17 +173,17 @@ canvas_no_encoder call made on k p e = not_either has_recorder k refl refl (make
 canvas_no_pass : (call : CanvasOf ℕ) (made : Option ℕ) (on : ℕ) (k : Kind) → is_pass k ≡ true → made_of (Canvas call made) ≡ Some (on, k) → ⊥
 canvas_no_pass call made on k p e = not_either is_pass k refl refl (makes_canvas call made on k e) p
 
-pub encoder_made : (serial : ℕ) (sight : Sight) (call : BoundCall) (answer : Answer) (on : ℕ) (k : Kind) → has_recorder k ≡ true → IsAnswerTo call answer → MakesAs sight call → made_of call ≡ Some (on, k)
-    → Fresh (after_call serial sight (call, answer)).own (length sight.own)
-encoder_made serial sight (Record stand command None) answer on k p answered fit e = absurd (cc)
-encoder_made serial sight (Record stand command (Some slot)) answer on k p answered fit e = absurd (no_encoder (bracket command) slot on k p e)
-encoder_made serial sight (Ask request made) answer on k p answered fit e =
-    let handle : Option HandleValue = handle_kept serial sight request made answer in
-    let fits : FitsSlot handle (Some (on, k)) = subst (FitsSlot handle) e (handle_fits serial sight request made answer answered) in
-    subst (λ (s : Sight). Fresh s.own (length sight.own)) (sym (after_ask serial sight request made answer))
-    (subst (λ n. Fresh (with_kept (ended_on sight (ended_by request)) handle) n) (ended_length sight (ended_by request))
-    (encoder_new (ended_on sight (ended_by request)) handle on k p fits (handle_kind serial sight request made answer on k fit e)))
-encoder_made serial sight (Canvas call made) answer on k p answered fit e = absurd (canvas_no_encoder call made on k p e)
+pub encoder_made : (setup : Setup) (sight : Sight) (call : BoundCall) (answer : Answer) (on : ℕ) (k : Kind) → has_recorder k ≡ true → IsAnswerTo call answer → MakesAs sight call → made_of call ≡ Some (on, k)
+    → Fresh (after_call setup sight (call, answer)).own (length sight.own)
+encoder_made setup sight (Record stand command None) answer on k p answered fit e = absurd (cc)
+encoder_made setup sight (Record stand command (Some slot)) answer on k p answered fit e = absurd (no_encoder (bracket command) slot on k p e)
+encoder_made setup sight (Ask request made) answer on k p answered fit e =
+    let handle : Option HandleValue = handle_kept setup sight request made answer in
+    let fits : FitsSlot handle (Some (on, k)) = subst (FitsSlot handle) e (handle_fits setup sight request made answer answered) in
+    subst (λ (s : Sight). Fresh s.own (length sight.own)) (sym (after_ask setup sight request made answer))
+    (subst (λ n. Fresh (with_kept setup.limits (ended_on sight (ended_by request)) handle) n) (ended_length sight (ended_by request))
+    (encoder_new setup.limits (ended_on sight (ended_by request)) handle on k p fits (handle_kind setup sight request made answer on k fit e)))
+encoder_made setup sight (Canvas call made) answer on k p answered fit e = absurd (canvas_no_encoder call made on k p e)
 
 -- ---- the pass that a call makes
 
@@ -264,14 +266,14 @@ begun_at objects on command r kind_of e k =
       begun = next r.passes (is_begin command) (begins_by (bracket command) kind_of k);
     }
 
-pub pass_begun : (serial : ℕ) (sight : Sight) (on slot : ℕ) (command : CommandOf ℕ) (answer : Answer) (r : RecorderValue) (kind_of : Kind) → recorder_at sight.own (place_in sight on) ≡ Some r → kind_begun command ≡ Some kind_of
-    → Begun (after_call serial sight (Record on command (Some slot), answer)).own (length sight.own) (place_in sight on) r
-pass_begun serial sight on slot command answer r kind_of e k =
+pub pass_begun : (setup : Setup) (sight : Sight) (on slot : ℕ) (command : CommandOf ℕ) (answer : Answer) (r : RecorderValue) (kind_of : Kind) → recorder_at sight.own (place_in sight on) ≡ Some r → kind_begun command ≡ Some kind_of
+    → Begun (after_call setup sight (Record on command (Some slot), answer)).own (length sight.own) (place_in sight on) r
+pass_begun setup sight on slot command answer r kind_of e k =
     let found : Command = command_seen sight command in
     let place : ℕ = place_in sight on in
     let begins : kind_begun found ≡ Some kind_of = begun_mapped (handle_in_sight sight) command ∙ k in
-    let whole : (after_call serial sight (Record on command (Some slot), answer)).own ≡ with_recorder sight.own place (recorded_by Encoder found) ++ object.Pass place r.passes ∷ []
-    = ap (λ (s : Sight). s.own) (after_record serial sight on command (Some slot) answer)
+    let whole : (after_call setup sight (Record on command (Some slot), answer)).own ≡ with_recorder sight.own place (recorded_by Encoder found) ++ object.Pass place r.passes ∷ []
+    = ap (λ (s : Sight). s.own) (after_record setup sight on command (Some slot) answer)
     ∙ (ap (λ (stand : Stand). recorded_on sight.own stand found ++ begun_by sight.own stand.encoder found (Some slot)) (stand_encoder sight.own place r e)
     ∙ ap (λ (pass : List Object). with_recorder sight.own place (recorded_by Encoder found) ++ pass) (begun_is sight.own place slot found r kind_of e begins)) in
     subst (λ objects. Begun objects (length sight.own) place r) (sym whole) (begun_at sight.own place found r kind_of e begins)

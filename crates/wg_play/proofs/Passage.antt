@@ -151,11 +151,11 @@ module _ (setup : Setup) where
   pub gives_same : (v w : LaneState) → settle v ≡ settle w → (entries : List Entry) → GivesAll v entries → GivesAll w entries
   gives_same v w same [] gives = ap next_at (sym same) ∙ gives
   gives_same v w same (e ∷ entries) gives =
-      (ap next_at (sym same) ∙ gives.0, subst (λ (l : LaneState). GivesAll l entries) (ap (λ (l : LaneState). after_at setup.serial l e.reply) same) gives.1)
+      (ap next_at (sym same) ∙ gives.0, subst (λ (l : LaneState). GivesAll l entries) (ap (λ (l : LaneState). after_at setup l e.reply) same) gives.1)
 
   pub end_same : (v w : LaneState) → settle v ≡ settle w → (entries : List Entry) → end_of v entries ≡ end_of w entries
   end_same v w same [] = same
-  end_same v w same (e ∷ entries) = ap (λ (l : LaneState). end_of l entries) (ap (λ (l : LaneState). after_at setup.serial l e.reply) same)
+  end_same v w same (e ∷ entries) = ap (λ (l : LaneState). end_of l entries) (ap (λ (l : LaneState). after_at setup l e.reply) same)
 
   -- ---- one call
 
@@ -169,8 +169,8 @@ module _ (setup : Setup) where
       → settle (lane_of sight (call ∷ calls)) ≡ option_map_or (λ after. settled after calls) found (lane_of sight (call ∷ calls))
   settled_by sight call calls found is = ap (λ (o : Option Sight). option_map_or (λ after. settled after calls) o (lane_of sight (call ∷ calls))) is
 
-  pub after_is : (sight : Sight) (call : BoundCall) (answer : Answer) (found : Option Sight) → kept sight call ≡ found → after_call setup.serial sight (call, answer) ≡ unwrap_or found (answered_by setup.serial sight call answer)
-  after_is sight call answer found is = ap (λ (o : Option Sight). unwrap_or o (answered_by setup.serial sight call answer)) is
+  pub after_is : (sight : Sight) (call : BoundCall) (answer : Answer) (found : Option Sight) → kept sight call ≡ found → after_call setup sight (call, answer) ≡ unwrap_or found (answered_by setup sight call answer)
+  after_is sight call answer found is = ap (λ (o : Option Sight). unwrap_or o (answered_by setup sight call answer)) is
 
   by_call : (call : BoundCall) (calls : List BoundCall) → Goes calls → (sight : Sight) (found : Option Sight) → kept sight call ≡ found → (entries : List Entry) → All (IsReplied setup) entries
       → GivesAll (lane_of sight (call ∷ calls)) entries → GoesThrough setup (lane_of sight (call ∷ calls)) entries
@@ -182,20 +182,20 @@ module _ (setup : Setup) where
         calls = (call, no_answer) ∷ more.calls;
         are = ap (λ cs. call ∷ cs) more.are;
         answered = All-cons IsAnsweredCall (call, no_answer) more.calls (kept_answered call) more.answered;
-        end = end_same (lane_of sight (call ∷ calls)) (lane_of after calls) same entries ∙ (more.end ∙ ap (λ (s : Sight). lane_of (after_calls setup.serial s more.calls) []) (sym here));
+        end = end_same (lane_of sight (call ∷ calls)) (lane_of after calls) same entries ∙ (more.end ∙ ap (λ (s : Sight). lane_of (after_calls setup s more.calls) []) (sym here));
       }
   by_call call calls goes sight None is [] replied gives = absurd (cc (ap next_at (sym (settled_by sight call calls None is)) ∙ gives))
   by_call call calls goes sight None is (e ∷ entries) replied gives =
       let same = settled_by sight call calls None is in
       let event : event_of sight call ≡ e.event = cc (ap next_at (sym same) ∙ gives.0) in
-      let after : Sight = answered_by setup.serial sight call e.reply.answer in
-      let more = goes after entries (All-tail (IsReplied setup) e entries replied) (subst (λ (l : LaneState). GivesAll (after_at setup.serial l e.reply) entries) same gives.1) in
+      let after : Sight = answered_by setup sight call e.reply.answer in
+      let more = goes after entries (All-tail (IsReplied setup) e entries replied) (subst (λ (l : LaneState). GivesAll (after_at setup l e.reply) entries) same gives.1) in
       let here = after_is sight call e.reply.answer None is in
       record {
         calls = (call, e.reply.answer) ∷ more.calls;
         are = ap (λ cs. call ∷ cs) more.are;
         answered = All-cons IsAnsweredCall (call, e.reply.answer) more.calls (event_answered setup sight call e is event (All-head (IsReplied setup) e entries replied)) more.answered;
-        end = ap (λ (l : LaneState). end_of (after_at setup.serial l e.reply) entries) same ∙ (more.end ∙ ap (λ (s : Sight). lane_of (after_calls setup.serial s more.calls) []) (sym here));
+        end = ap (λ (l : LaneState). end_of (after_at setup l e.reply) entries) same ∙ (more.end ∙ ap (λ (s : Sight). lane_of (after_calls setup s more.calls) []) (sym here));
       }
 
   goes_through : (calls : List BoundCall) → Goes calls

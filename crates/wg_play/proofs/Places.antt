@@ -8,7 +8,7 @@ use Rattle.wg_types.specs.Wanted.{admits, is_wanted}
 use Rattle.wg_types.specs.declared.commands.Bracket.{Bracket}
 use Rattle.wg_types.specs.declared.commands.Bracket.TheVariants as brackets
 use Rattle.wg_types.specs.declared.commands.CommandOf.{CommandOf}
-use Rattle.wg_types.specs.declared.commands.CommandOf.TheVariants.{BeginComputePass, BeginRenderPass, CopyBufferToBuffer, CopyBufferToTexture, CopyTextureToBuffer, CopyTextureToTexture, ClearBuffer, ResolveQuerySet, PushDebugGroup, PopDebugGroup, End, SetPipeline, SetBindGroup, Dispatch, DispatchIndirect, SetVertexBuffer, SetIndexBuffer, Draw, DrawIndexed, DrawIndirect, DrawIndexedIndirect, BeginOcclusionQuery, EndOcclusionQuery, ExecuteBundles}
+use Rattle.wg_types.specs.declared.commands.CommandOf.TheVariants.{BeginComputePass, BeginRenderPass, CopyBufferToBuffer, CopyBufferToTexture, CopyTextureToBuffer, CopyTextureToTexture, ClearBuffer, ResolveQuerySet, PushDebugGroup, PopDebugGroup, InsertDebugMarker, End, SetPipeline, SetBindGroup, Dispatch, DispatchIndirect, SetVertexBuffer, SetIndexBuffer, Draw, DrawIndexed, DrawIndirect, DrawIndexedIndirect, BeginOcclusionQuery, EndOcclusionQuery, ExecuteBundles, SetViewport, SetScissorRect, SetBlendConstant, SetStencilReference}
 use Rattle.wg_types.specs.Commands.{map_refs, bracket, place_wanted, kind_begun_by, kind_begun, begins_pass_by}
 use Rattle.wg_names.specs.Uses.{wants_own}
 use Rattle.wg_names.proofs.BoundLemmas.{place_own}
@@ -27,6 +27,7 @@ bracket_mapped f (ClearBuffer buffer offset size) = refl
 bracket_mapped f (ResolveQuerySet queries first count buffer offset) = refl
 bracket_mapped f PushDebugGroup = refl
 bracket_mapped f PopDebugGroup = refl
+bracket_mapped f InsertDebugMarker = refl
 bracket_mapped f End = refl
 bracket_mapped f (SetPipeline pipeline) = refl
 bracket_mapped f (SetBindGroup index group offsets) = refl
@@ -41,6 +42,10 @@ bracket_mapped f (DrawIndexedIndirect buffer offset) = refl
 bracket_mapped f (BeginOcclusionQuery index) = refl
 bracket_mapped f EndOcclusionQuery = refl
 bracket_mapped f (ExecuteBundles bundles) = refl
+bracket_mapped f (SetViewport viewport) = refl
+bracket_mapped f (SetScissorRect x y width height) = refl
+bracket_mapped f SetBlendConstant = refl
+bracket_mapped f SetStencilReference = refl
 
 -- it stands on an encoder
 pub place_of_begin : {R : Type 0} (command : CommandOf R) (k : Kind) → kind_begun command ≡ Some k → place_wanted command ≡ wanted.Encoder
@@ -54,6 +59,7 @@ place_of_begin (ClearBuffer buffer offset size) k e = refl
 place_of_begin (ResolveQuerySet queries first count buffer offset) k e = refl
 place_of_begin PushDebugGroup k e = absurd (cc)
 place_of_begin PopDebugGroup k e = absurd (cc)
+place_of_begin InsertDebugMarker k e = absurd (cc)
 place_of_begin End k e = absurd (cc)
 place_of_begin (SetPipeline pipeline) k e = absurd (cc)
 place_of_begin (SetBindGroup index group offsets) k e = absurd (cc)
@@ -68,6 +74,10 @@ place_of_begin (DrawIndexedIndirect buffer offset) k e = absurd (cc)
 place_of_begin (BeginOcclusionQuery index) k e = absurd (cc)
 place_of_begin EndOcclusionQuery k e = absurd (cc)
 place_of_begin (ExecuteBundles bundles) k e = absurd (cc)
+place_of_begin (SetViewport viewport) k e = absurd (cc)
+place_of_begin (SetScissorRect x y width height) k e = absurd (cc)
+place_of_begin SetBlendConstant k e = absurd (cc)
+place_of_begin SetStencilReference k e = absurd (cc)
 
 pub begins_by : (b : Bracket) (k : Kind) → kind_begun_by b ≡ Some k → begins_pass_by b ≡ true
 begins_by brackets.BeginComputePass k e = refl

@@ -32,7 +32,7 @@ use Rattle.wg_play.specs.Lanes.{LaneState, settle, stand_seen, starts, next_even
 use Rattle.wg_play.specs.Turns.{entries_of_caller, after_all}
 use Rattle.wg_play.specs.Play.{after_}
 use Rattle.wg_play.specs.Late.{Answered as AnsweredCall, IsAnsweredCall, after_calls, slots_before, finishes, has_pass_ended}
-use Rattle.wg_play.specs.Found.{IsShown, IsOf, SlotsStand, object_in_sight, SlotIsSeen, phase_of}
+use Rattle.wg_play.specs.Found.{IsShown, IsOf, SlotsStand, object_in_sight, SlotIsSeen, IsSeenBy, phase_of}
 use Rattle.wg_play.specs.Kept.{HandleIsGenuine, HandlesAreGenuine, SeesGenuine, LanesSee}
 use Rattle.wg_play.specs.Played.{PlayedCall, PlayedPhase, calls_in, entries_in, lanes_in, with_answer, answered_lanes, objects_next, objects_after, sight_after, seen_calls, with_sights, lanes_sights, phases_sights, seen_with, current_seen, ShowsCurrent, is_late_after, IsPlayedAs, IsOfCanvas, IsOfCall, StandsForMade, past_at, IsMoment, IsPlayedAt, PlayGoesThrough}
 use Rattle.wg_play.proofs.Turning.{onto}
@@ -46,6 +46,7 @@ use Rattle.wg_play.proofs.Running.{HasVerb, RunsAs, Runs, lane_with, goes_to, ru
 use Rattle.wg_play.proofs.Following.{same_kind}
 use Rattle.wg_play.proofs.Encoders.{encoder_is}
 use Rattle.wg_play.proofs.Makers.{lane_same, lanes_same, calls_more, made_among, IsFromCanvas, IsFrom, IsMadeAt, maker_contains, MadeFrom, none_made, lane_made, start_at, AllRun, all_answered, MadeAll, lanes_joined}
+use Rattle.wg_play.proofs.Judged.{lane_own, entry_judged}
 use Rattle.wg_play.proofs.Currents.{ShownFrom, ShownAll, plain_contains, lane_shown, none_shown, lanes_shown}
 use Rattle.wg_play.proofs.PlayedPhases.{lanes_length, after_part, PhaseRuns, PhasesRun, entries_of, script_runs, phase_at, all_interleaved, lane_run_at, lane_sees_at}
 
@@ -84,7 +85,7 @@ module _ (setup : Setup) (some : setup.serial ≢ 0) where
   IsShownSo past handle (Create width height) = Unit {0}
   IsShownSo past handle (On canvas call) = is_genuine setup past handle ≡ true
 
-  of_canvas : (past : Past) (handle : HandleValue) (asked : CanvasOf ℕ) (found : Option Entry) → IsFromCanvas setup.serial handle asked found → IsShownSo past handle asked → IsOfCanvas setup past handle asked found
+  of_canvas : (past : Past) (handle : HandleValue) (asked : CanvasOf ℕ) (found : Option Entry) → IsFromCanvas setup handle asked found → IsShownSo past handle asked → IsOfCanvas setup past handle asked found
   of_canvas past handle (Create width height) found from shown = tt
   of_canvas past handle (On canvas call) None from shown = shown
   of_canvas past handle (On canvas call) (Some entry) from shown = record { device = from.0; answer = from.1; genuine = shown }
@@ -92,7 +93,7 @@ module _ (setup : Setup) (some : setup.serial ≢ 0) where
   abbrev ShowsGenuine : Past → BoundCall → HandleValue → Type 0
   ShowsGenuine past call handle = (asked : CanvasOf ℕ) (made : Option ℕ) → call ≡ Canvas asked made → IsShownSo past handle asked
 
-  of_object : (past : Past) (what : Object) (call : BoundCall) (found : Option Entry) → IsFrom setup.serial (handle_in what) call found
+  of_object : (past : Past) (what : Object) (call : BoundCall) (found : Option Entry) → IsFrom setup (handle_in what) call found
       → HandleIsGenuine setup past what → ShowsGenuine past call (handle_in what) → IsOfCall setup past (handle_in what) call found
   of_object past what (Record on command made) found from kept shows = tt
   of_object past what (Canvas call made) found from kept shows = of_canvas past (handle_in what) call found from (shows call made refl)
@@ -104,7 +105,7 @@ module _ (setup : Setup) (some : setup.serial ≢ 0) where
   of_object past (object.Shown (Some texture)) (Ask request made) (Some entry) from kept shows = record { device = from.0; answer = from.1; genuine = kept }
 
   of_place : (past : Past) (objects : List Object) (place : ℕ) (maker : PlayedCall) → HandlesAreGenuine setup past objects
-      → IsMadeAt setup.serial objects place maker → ShowsGenuine past maker.0 (handle_at objects place) → IsOfCall setup past (handle_at objects place) maker.0 maker.1
+      → IsMadeAt setup objects place maker → ShowsGenuine past maker.0 (handle_at objects place) → IsOfCall setup past (handle_at objects place) maker.0 maker.1
   of_place past objects place maker kept made shows =
       let same : handle_at objects place ≡ handle_in made.what = ap (λ (o : Option Object). option_map_or handle_in o unknown) made.is in
       subst (λ (h : HandleValue). IsOfCall setup past h maker.0 maker.1) (sym same)
@@ -208,7 +209,7 @@ module _ (setup : Setup) (some : setup.serial ≢ 0) where
   stands_next : (done : List PlayedPhase) (phase : PlayedPhase) (later : List PlayedPhase) (objects : List Object) (seen : List (Sight × PlayedCall))
       → IsBound (map lanes_in (done ++ phase ∷ later)) → AllRun setup objects (length objects) phase.lanes
       → StandsAll objects done seen
-      → StandsAll (objects_next setup.serial objects phase.lanes) (done ++ phase ∷ []) (seen ++ lanes_sights setup.serial objects (length objects) phase.lanes)
+      → StandsAll (objects_next setup objects phase.lanes) (done ++ phase ∷ []) (seen ++ lanes_sights setup objects (length objects) phase.lanes)
   stands_next done phase later objects seen bound runs was =
       let front : List (List (List BoundCall)) = map lanes_in done in
       let back : List (List (List BoundCall)) = map lanes_in later in
@@ -217,7 +218,7 @@ module _ (setup : Setup) (some : setup.serial ≢ 0) where
       let one : map lanes_in (done ++ phase ∷ []) ≡ front ++ lanes_in phase ∷ [] = map-append lanes_in done (phase ∷ []) in
       let held = gathered_is_held front back (answered_lanes phase.lanes)
       (subst (λ (ls : List (List BoundCall)). IsBound (front ++ ls ∷ back)) (sym same) split)
-      (all_answered setup objects (length objects) phase.lanes runs) setup.serial objects was.held in
+      (all_answered setup objects (length objects) phase.lanes runs) setup objects was.held in
       let before : Slots = slots_in done in
       let here : Slots = flat_map made_in (lanes_in phase) in
       let rest : Slots = flat_map (flat_map made_in) back in
@@ -233,9 +234,9 @@ module _ (setup : Setup) (some : setup.serial ≢ 0) where
       = flat_map-append (λ (p : PlayedPhase). flat_map (λ (cs : List PlayedCall). cs) p.lanes) done (phase ∷ []) ∙ ap
       (λ (cs : List PlayedCall). calls_of done ++ cs) (append-nil (flat_map (λ (cs : List PlayedCall). cs) phase.lanes)) in
       record {
-        held = subst (λ (ps : List (List (List BoundCall))). SlotsStand (objects_next setup.serial objects phase.lanes) (flat_map (flat_map made_in) ps))
+        held = subst (λ (ps : List (List (List BoundCall))). SlotsStand (objects_next setup objects phase.lanes) (flat_map (flat_map made_in) ps))
             (ap (λ (ls : List (List BoundCall)). front ++ ls ∷ []) same ∙ sym one) held;
-        made = subst (MadeAll setup (objects_next setup.serial objects phase.lanes)) (sym end)
+        made = subst (MadeAll setup (objects_next setup objects phase.lanes)) (sym end)
             (lanes_joined setup objects phase.lanes objects (calls_of done) was.made runs numbers);
         shown = lanes_shown setup objects phase.lanes objects seen was.shown runs numbers;
       }
@@ -243,18 +244,18 @@ module _ (setup : Setup) (some : setup.serial ≢ 0) where
   stands_at : (earlier done later : List PlayedPhase) (objects : List Object) (seen : List (Sight × PlayedCall)) (past : Past)
       → IsBound (map lanes_in (done ++ (earlier ++ later))) → PhasesRun setup some (earlier ++ later) objects past
       → StandsAll objects done seen
-      → StandsAll (objects_after setup.serial objects earlier) (done ++ earlier) (seen ++ phases_sights setup.serial objects earlier)
+      → StandsAll (objects_after setup objects earlier) (done ++ earlier) (seen ++ phases_sights setup objects earlier)
   stands_at [] done later objects seen past bound run was =
       subst (λ (cs : List (Sight × PlayedCall)). StandsAll objects (done ++ []) cs) (sym (append-nil seen))
       (subst (λ (ps : List PlayedPhase). StandsAll objects ps seen) (sym (append-nil done)) was)
   stands_at (phase ∷ earlier) done later objects seen past bound run was =
-      let more : List (Sight × PlayedCall) = lanes_sights setup.serial objects (length objects) phase.lanes in
-      let mid : List Object = objects_next setup.serial objects phase.lanes in
+      let more : List (Sight × PlayedCall) = lanes_sights setup objects (length objects) phase.lanes in
+      let mid : List Object = objects_next setup objects phase.lanes in
       let next : StandsAll mid (done ++ phase ∷ []) (seen ++ more)
       = stands_next done phase (earlier ++ later) objects seen bound run.0.runs was in
-      let after : List Object = objects_after setup.serial mid earlier in
-      subst (λ (cs : List (Sight × PlayedCall)). StandsAll after (done ++ phase ∷ earlier) cs) (append_assoc seen more (phases_sights setup.serial mid earlier))
-      (subst (λ (ps : List PlayedPhase). StandsAll after ps ((seen ++ more) ++ phases_sights setup.serial mid earlier)) (append_assoc done (phase ∷ []) earlier)
+      let after : List Object = objects_after setup mid earlier in
+      subst (λ (cs : List (Sight × PlayedCall)). StandsAll after (done ++ phase ∷ earlier) cs) (append_assoc seen more (phases_sights setup mid earlier))
+      (subst (λ (ps : List PlayedPhase). StandsAll after ps ((seen ++ more) ++ phases_sights setup mid earlier)) (append_assoc done (phase ∷ []) earlier)
       (stands_at earlier (done ++ phase ∷ []) later mid (seen ++ more) (onto past phase.entries)
       (subst (λ (ps : List PlayedPhase). IsBound (map lanes_in ps)) (sym (append_assoc done (phase ∷ []) (earlier ++ later))) bound) run.1 next))
 
@@ -290,12 +291,12 @@ module _ (setup : Setup) (some : setup.serial ≢ 0) where
   late_at : (earlier later : List PlayedPhase) (lanes_before lanes_after : List (List PlayedCall)) (before after : List PlayedCall) (on : ℕ)
       (command : CommandOf ℕ) (made : Option ℕ)
       → BoundAt earlier later lanes_before lanes_after (calls_in before ++ Record on command made ∷ calls_in after) → All IsAnsweredCall (map with_answer before)
-      → let sight = sight_after setup.serial earlier lanes_before before in is_late_on sight.own (stand_seen sight on)
+      → let sight = sight_after setup earlier lanes_before before in is_late_on sight.own (stand_seen sight on)
       ≡ is_late_after sight (calls_in before) on
   late_at earlier later lanes_before lanes_after before after on command made bound answered =
-      let others : List Object = objects_after setup.serial [] earlier in
+      let others : List Object = objects_after setup [] earlier in
       let first : ℕ = slots_before (map lanes_in earlier) (map calls_in lanes_before) in
-      let sight : Sight = sight_after setup.serial earlier lanes_before before in
+      let sight : Sight = sight_after setup earlier lanes_before before in
       let call : BoundCall = Record on command made in
       let calls : List BoundCall = calls_in before ++ call ∷ calls_in after in
       let same : map (λ (c : AnsweredCall). c.0) (map with_answer before) ≡ calls_in before = lane_same before in
@@ -308,21 +309,22 @@ module _ (setup : Setup) (some : setup.serial ≢ 0) where
       late_is_finished (map lanes_in earlier) (map lanes_in later) (map calls_in lanes_before) (map calls_in lanes_after) (map with_answer before)
       (calls_in after) on command made
       (subst (λ (cs : List BoundCall). BoundAt earlier later lanes_before lanes_after (cs ++ call ∷ calls_in after))
-      (sym same) bound) answered setup.serial others
+      (sym same) bound) answered setup others
       ∙ ap₂ (λ (n : ℕ) (cs : List BoundCall). list_any (finishes n) cs || has_pass_ended sight.own (stand_seen sight on))
-      (encoder_is setup.serial others first (slots_in earlier) before on command made (calls_in after) lane numbers answered) same
+      (encoder_is setup others first (slots_in earlier) before on command made (calls_in after) lane numbers answered) same
 
-  verb_at : (earlier later : List PlayedPhase) (lanes_before lanes_after : List (List PlayedCall)) (before after : List PlayedCall)
+  -- what a call of the device finds
+  asked_at : (earlier later : List PlayedPhase) (lanes_before lanes_after : List (List PlayedCall)) (before after : List PlayedCall)
       (request : RequestOf ℕ) (made : Option ℕ)
       → BoundAt earlier later lanes_before lanes_after (calls_in before ++ Ask request made ∷ calls_in after) → All IsAnsweredCall (map with_answer before)
-      → SlotsStand (objects_after setup.serial [] earlier) (slots_in earlier) → HasVerb (sight_after setup.serial earlier lanes_before before) request
-  verb_at earlier later lanes_before lanes_after before after request made bound answered holds =
+      → SlotsStand (objects_after setup [] earlier) (slots_in earlier)
+      → IsSeenBy (sight_after setup earlier lanes_before before) (slots_in earlier ++ made_in (map (λ (c : AnsweredCall). c.0) (map with_answer before))) request
+  asked_at earlier later lanes_before lanes_after before after request made bound answered holds =
       let call : BoundCall = Ask request made in
-      let found = bound_is_found (map lanes_in earlier) (map lanes_in later) (map calls_in lanes_before) (map calls_in lanes_after)
+      bound_is_found (map lanes_in earlier) (map lanes_in later) (map calls_in lanes_before) (map calls_in lanes_after)
       (map with_answer before) call (calls_in after)
       (subst (λ (cs : List BoundCall). BoundAt earlier later lanes_before lanes_after (cs ++ call ∷ calls_in after)) (sym (lane_same before)) bound)
-      answered setup.serial (objects_after setup.serial [] earlier) holds in
-      found.verb
+      answered setup (objects_after setup [] earlier) holds
 
   -- all that the lane sees is genuine
   genuine_at : (earlier : List PlayedPhase) (phase : PlayedPhase) (lanes_before lanes_after : List (List PlayedCall)) (before after : List PlayedCall)
@@ -330,11 +332,11 @@ module _ (setup : Setup) (some : setup.serial ≢ 0) where
       → phase.lanes ≡ lanes_before ++ (before ++ call ∷ after) ∷ lanes_after → length others + length (flat_map made_in (map calls_in lanes_before)) ≡ first
       → PhaseRuns setup some others (onto [] (entries_of setup some earlier)) phase → Runs setup (start_at setup others first) before
       → (front : List Entry) → IsMoment phase (length lanes_before) before front
-      → SeesGenuine setup (past_at earlier front) (after_calls setup.serial (start_at setup others first) (map with_answer before))
+      → SeesGenuine setup (past_at earlier front) (after_calls setup (start_at setup others first) (map with_answer before))
   genuine_at earlier phase lanes_before lanes_after before after call others first lanes_are first_is here runs front moment =
       let past : Past = onto (onto [] (entries_of setup some earlier)) front in
       let start : Sight = start_at setup others first in
-      let sight : Sight = after_calls setup.serial start (map with_answer before) in
+      let sight : Sight = after_calls setup start (map with_answer before) in
       let left : List BoundCall = call.0 ∷ calls_in after in
       let calls : List BoundCall = calls_in before ++ left in
       let split : lanes_in phase ≡ map calls_in lanes_before ++ calls ∷ map calls_in lanes_after
@@ -360,15 +362,15 @@ module _ (setup : Setup) (some : setup.serial ≢ 0) where
   -- each name that the call uses stands for what was made as that
   names_at : (earlier later : List PlayedPhase) (lanes_before lanes_after : List (List PlayedCall)) (before after : List PlayedCall) (call : PlayedCall)
       → BoundAt earlier later lanes_before lanes_after (calls_in before ++ call.0 ∷ calls_in after)
-      → SlotsStand (objects_after setup.serial [] earlier) (slots_in earlier) → MadeAll setup (objects_after setup.serial [] earlier) (calls_of earlier)
-      → Runs setup (start_at setup (objects_after setup.serial [] earlier) (slots_before (map lanes_in earlier) (map calls_in lanes_before))) before
-      → (past : Past) → SeesGenuine setup past (sight_after setup.serial earlier lanes_before before)
-      → All (StandsForMade setup past (sight_after setup.serial earlier lanes_before before) (seen_calls earlier before)) (uses_of call.0)
+      → SlotsStand (objects_after setup [] earlier) (slots_in earlier) → MadeAll setup (objects_after setup [] earlier) (calls_of earlier)
+      → Runs setup (start_at setup (objects_after setup [] earlier) (slots_before (map lanes_in earlier) (map calls_in lanes_before))) before
+      → (past : Past) → SeesGenuine setup past (sight_after setup earlier lanes_before before)
+      → All (StandsForMade setup past (sight_after setup earlier lanes_before before) (seen_calls earlier before)) (uses_of call.0)
   names_at earlier later lanes_before lanes_after before after call bound holds made runs past sees =
-      let others : List Object = objects_after setup.serial [] earlier in
+      let others : List Object = objects_after setup [] earlier in
       let first : ℕ = slots_before (map lanes_in earlier) (map calls_in lanes_before) in
       let start : Sight = start_at setup others first in
-      let sight : Sight = sight_after setup.serial earlier lanes_before before in
+      let sight : Sight = sight_after setup earlier lanes_before before in
       let left : List BoundCall = call.0 ∷ calls_in after in
       let calls : List BoundCall = calls_in before ++ left in
       let ours : Slots = made_in (calls_in before) in
@@ -383,17 +385,17 @@ module _ (setup : Setup) (some : setup.serial ≢ 0) where
       let from_others : AreFrom 0 (slots_of (made_in (calls_in (calls_of earlier))))
       = subst (λ (ms : Slots). AreFrom 0 (slots_of ms)) (sym same)
       (earlier_from (map lanes_in earlier) ((map calls_in lanes_before ++ calls ∷ map calls_in lanes_after) ∷ map lanes_in later) bound.count bound.numbered) in
-      let first_is : sight.first ≡ first = first_after setup.serial (map with_answer before) start in
+      let first_is : sight.first ≡ first = first_after setup (map with_answer before) start in
       let count : length (made_in (calls_in (calls_of earlier))) ≡ length (slots_in earlier) = ap (λ (ms : Slots). length ms) same in
       let short : length (made_in (calls_in (calls_of earlier))) ≤ sight.first = omega (arith, first_is, count) in
-      let others_is : sight.others ≡ others = others_after setup.serial (map with_answer before) start in
+      let others_is : sight.others ≡ others = others_after setup (map with_answer before) start in
       let zero_is : first ≡ first + 0 = omega arith in
       let answered : All IsAnsweredCall (map with_answer before) = lane_answered setup before start runs in
       let seen : SeesAll sight (slots_in earlier ++ ours)
       = subst (λ (cs : List BoundCall). SeesAll sight (slots_in earlier ++ made_in cs)) (lane_same before)
       (sees_before (map lanes_in earlier) (map lanes_in later) (map calls_in lanes_before) (map calls_in lanes_after) (map with_answer before) call.0 (calls_in after)
       (subst (λ (cs : List BoundCall). BoundAt earlier later lanes_before lanes_after (cs ++ call.0 ∷ calls_in after)) (sym (lane_same before)) bound)
-      answered setup.serial others holds).seen in
+      answered setup others holds).seen in
       let shows : SlotsShow past sight (made_in (calls_in (calls_of earlier)) ++ ours)
       = subst (λ (ms : Slots). SlotsShow past sight (ms ++ ours)) (sym same) (slots_show past sight (slots_in earlier ++ ours) seen sees) in
       let own : MadeFrom setup sight.first sight.own before
@@ -428,37 +430,37 @@ module _ (setup : Setup) (some : setup.serial ≢ 0) where
       ap (λ (b : Bool). if b then slice_get sight.others name else slice_get sight.own (place_in sight name)) is
 
   lanes_plain : (others : List Object) (first : ℕ) (lanes : List (List PlayedCall)) (before : Sight) (call : PlayedCall)
-      → Contains {X = Sight × PlayedCall} (lanes_sights setup.serial others first lanes) (before, call)
+      → Contains {X = Sight × PlayedCall} (lanes_sights setup others first lanes) (before, call)
       → Contains {X = PlayedCall} (flat_map (λ (cs : List PlayedCall). cs) lanes) call
   lanes_plain others first [] before call there = absurd (omega (arith, there.1))
   lanes_plain others first (calls ∷ lanes) before call there =
       let rest : List PlayedCall = flat_map (λ (cs : List PlayedCall). cs) lanes in
-      elim (Contains-append_cases (with_sights setup.serial (start_at setup others first) calls) (lanes_sights setup.serial others (first + count_made (calls_in calls)) lanes) (before, call) there) [
-        | inl here ↦ Contains-append_left calls rest call (plain_contains setup.serial (start_at setup others first) calls before call here)
+      elim (Contains-append_cases (with_sights setup (start_at setup others first) calls) (lanes_sights setup others (first + count_made (calls_in calls)) lanes) (before, call) there) [
+        | inl here ↦ Contains-append_left calls rest call (plain_contains setup (start_at setup others first) calls before call here)
         | inr later ↦ Contains-append_right calls rest call (lanes_plain others (first + count_made (calls_in calls)) lanes before call later)
       ]
 
   phases_plain : (objects : List Object) (phases : List PlayedPhase) (before : Sight) (call : PlayedCall)
-      → Contains {X = Sight × PlayedCall} (phases_sights setup.serial objects phases) (before, call) → Contains {X = PlayedCall} (calls_of phases) call
+      → Contains {X = Sight × PlayedCall} (phases_sights setup objects phases) (before, call) → Contains {X = PlayedCall} (calls_of phases) call
   phases_plain objects [] before call there = absurd (omega (arith, there.1))
   phases_plain objects (phase ∷ phases) before call there =
-      let mid : List Object = objects_next setup.serial objects phase.lanes in
+      let mid : List Object = objects_next setup objects phase.lanes in
       let here : List PlayedCall = flat_map (λ (cs : List PlayedCall). cs) phase.lanes in
-      elim (Contains-append_cases (lanes_sights setup.serial objects (length objects) phase.lanes) (phases_sights setup.serial mid phases) (before, call) there) [
+      elim (Contains-append_cases (lanes_sights setup objects (length objects) phase.lanes) (phases_sights setup mid phases) (before, call) there) [
         | inl first ↦ Contains-append_left here (calls_of phases) call (lanes_plain objects (length objects) phase.lanes before call first)
         | inr later ↦ Contains-append_right here (calls_of phases) call (phases_plain mid phases before call later)
       ]
 
   current_at : (earlier later : List PlayedPhase) (lanes_before lanes_after : List (List PlayedCall)) (before after : List PlayedCall) (call : PlayedCall)
       → BoundAt earlier later lanes_before lanes_after (calls_in before ++ call.0 ∷ calls_in after)
-      → SlotsStand (objects_after setup.serial [] earlier) (slots_in earlier) → ShownAll (objects_after setup.serial [] earlier) (phases_sights setup.serial [] earlier)
-      → Runs setup (start_at setup (objects_after setup.serial [] earlier) (slots_before (map lanes_in earlier) (map calls_in lanes_before))) before
-      → ShowsCurrent (sight_after setup.serial earlier lanes_before before) (seen_with setup.serial earlier lanes_before before)
+      → SlotsStand (objects_after setup [] earlier) (slots_in earlier) → ShownAll (objects_after setup [] earlier) (phases_sights setup [] earlier)
+      → Runs setup (start_at setup (objects_after setup [] earlier) (slots_before (map lanes_in earlier) (map calls_in lanes_before))) before
+      → ShowsCurrent (sight_after setup earlier lanes_before before) (seen_with setup earlier lanes_before before)
   current_at earlier later lanes_before lanes_after before after call bound holds shown runs =
-      let others : List Object = objects_after setup.serial [] earlier in
+      let others : List Object = objects_after setup [] earlier in
       let first : ℕ = slots_before (map lanes_in earlier) (map calls_in lanes_before) in
       let start : Sight = start_at setup others first in
-      let sight : Sight = sight_after setup.serial earlier lanes_before before in
+      let sight : Sight = sight_after setup earlier lanes_before before in
       let left : List BoundCall = call.0 ∷ calls_in after in
       let calls : List BoundCall = calls_in before ++ left in
       let ours : Slots = made_in (calls_in before) in
@@ -471,20 +473,20 @@ module _ (setup : Setup) (some : setup.serial ≢ 0) where
       let from_others : AreFrom 0 (slots_of made)
       = subst (λ (ms : Slots). AreFrom 0 (slots_of ms)) (sym same)
       (earlier_from (map lanes_in earlier) ((map calls_in lanes_before ++ calls ∷ map calls_in lanes_after) ∷ map lanes_in later) bound.count bound.numbered) in
-      let first_is : sight.first ≡ first = first_after setup.serial (map with_answer before) start in
+      let first_is : sight.first ≡ first = first_after setup (map with_answer before) start in
       let count : length made ≡ length (slots_in earlier) = ap (λ (ms : Slots). length ms) same in
       let short : length made ≤ sight.first = omega (arith, first_is, count) in
-      let others_is : sight.others ≡ others = others_after setup.serial (map with_answer before) start in
+      let others_is : sight.others ≡ others = others_after setup (map with_answer before) start in
       let zero_is : first ≡ first + 0 = omega arith in
       let seen : SeesAll sight (slots_in earlier ++ ours)
       = subst (λ (cs : List BoundCall). SeesAll sight (slots_in earlier ++ made_in cs)) (lane_same before)
       (sees_before (map lanes_in earlier) (map lanes_in later) (map calls_in lanes_before) (map calls_in lanes_after) (map with_answer before) call.0 (calls_in after)
       (subst (λ (cs : List BoundCall). BoundAt earlier later lanes_before lanes_after (cs ++ call.0 ∷ calls_in after)) (sym (lane_same before)) bound)
-      (lane_answered setup before start runs) setup.serial others holds).seen in
-      let own : ShownFrom sight.first sight.own (with_sights setup.serial start before)
+      (lane_answered setup before start runs) setup others holds).seen in
+      let own : ShownFrom sight.first sight.own (with_sights setup start before)
       = lane_shown setup before [] start (none_shown setup first) runs (subst (λ n. AreFrom n (slots_of ours)) zero_is numbers) in
       λ then_seen canvas name there.
-      elim (Contains-append_cases (phases_sights setup.serial [] earlier) (with_sights setup.serial start before) (then_seen, (Canvas (On canvas Current) (Some name), None)) there) [
+      elim (Contains-append_cases (phases_sights setup [] earlier) (with_sights setup start before) (then_seen, (Canvas (On canvas Current) (Some name), None)) there) [
         | inl other ↦ let slot : Contains made (name, kinds.CanvasTexture) = maker_contains (calls_of earlier) (Canvas (On canvas Current) (Some name), None) (name, kinds.CanvasTexture)
             (phases_plain [] earlier then_seen (Canvas (On canvas Current) (Some name), None) other) refl in
             let low = below 0 made name kinds.CanvasTexture from_others slot in
@@ -493,7 +495,7 @@ module _ (setup : Setup) (some : setup.serial ≢ 0) where
             (seen name kinds.CanvasTexture (Contains-append_left (slots_in earlier) ours (name, kinds.CanvasTexture) (subst (λ (ms : Slots). Contains ms (name, kinds.CanvasTexture)) same slot)))
             (other_object sight name less ∙ (ap (λ (os : List Object). slice_get os name) others_is ∙ shown then_seen canvas name other))
         | inr mine ↦ let slot : Contains ours (name, kinds.CanvasTexture) = maker_contains before (Canvas (On canvas Current) (Some name), None) (name, kinds.CanvasTexture)
-            (plain_contains setup.serial start before then_seen (Canvas (On canvas Current) (Some name), None) mine) refl in
+            (plain_contains setup start before then_seen (Canvas (On canvas Current) (Some name), None) mine) refl in
             let least : first ≤ name = at_least first ours name kinds.CanvasTexture numbers slot in
             let from : sight.first ≤ name = omega (arith, least, first_is) in
             shown_in_sight sight name (current_seen then_seen canvas)
@@ -507,11 +509,11 @@ module _ (setup : Setup) (some : setup.serial ≢ 0) where
       → PhasesRun setup some (earlier ++ phase ∷ later) [] []
       → IsPlayedAt setup earlier phase lanes_before before call
   played_at earlier later phase lanes_before lanes_after before after call lanes_are bound run =
-      let others : List Object = objects_after setup.serial [] earlier in
+      let others : List Object = objects_after setup [] earlier in
       let first : ℕ = slots_before (map lanes_in earlier) (map calls_in lanes_before) in
       let start : Sight = start_at setup others first in
-      let sight : Sight = sight_after setup.serial earlier lanes_before before in
-      let stands : StandsAll others earlier (phases_sights setup.serial [] earlier) = stands_at earlier [] (phase ∷ later) [] [] [] bound run none_stands in
+      let sight : Sight = sight_after setup earlier lanes_before before in
+      let stands : StandsAll others earlier (phases_sights setup [] earlier) = stands_at earlier [] (phase ∷ later) [] [] [] bound run none_stands in
       let here = phase_at setup some earlier phase later [] [] run in
       let first_is : length others + length (flat_map made_in (map calls_in lanes_before)) ≡ first
       = ap (λ n. n + length (flat_map made_in (map calls_in lanes_before))) stands.held.count in
@@ -523,14 +525,18 @@ module _ (setup : Setup) (some : setup.serial ≢ 0) where
       = subst IsBound (map-append lanes_in earlier (phase ∷ later)
       ∙ ap (λ (ls : List (List BoundCall)). map lanes_in earlier ++ ls ∷ map lanes_in later)
       (ap (λ (ls : List (List PlayedCall)). map calls_in ls) lanes_are ∙ lane_split lanes_before lanes_after before after call)) bound in
+      let runs_here : RunsAs setup sight call.0 call.1 = runs_at setup before call after start runs in
+      let asked : (request : RequestOf ℕ) (made : Option ℕ) → call.0 ≡ Ask request made
+      → IsSeenBy sight (slots_in earlier ++ made_in (map (λ (c : AnsweredCall). c.0) (map with_answer before))) request
+      = λ request made is. asked_at earlier later lanes_before lanes_after before after request made
+      (subst (λ (c : BoundCall). BoundAt earlier later lanes_before lanes_after (calls_in before ++ c ∷ calls_in after)) is bound_here)
+      (lane_answered setup before start front_runs) stands.held in
       record {
-        how = how_by sight (calls_in before) call.0 call.1 (runs_at setup before call after start runs)
+        how = how_by sight (calls_in before) call.0 call.1 runs_here
             (λ on command made is. late_at earlier later lanes_before lanes_after before after on command made
             (subst (λ (c : BoundCall). BoundAt earlier later lanes_before lanes_after (calls_in before ++ c ∷ calls_in after)) is bound_here)
             (lane_answered setup before start front_runs))
-            (λ request made is. verb_at earlier later lanes_before lanes_after before after request made
-            (subst (λ (c : BoundCall). BoundAt earlier later lanes_before lanes_after (calls_in before ++ c ∷ calls_in after)) is bound_here)
-            (lane_answered setup before start front_runs) stands.held);
+            (λ request made is. (asked request made is).verb);
         sees = λ front moment.
             let genuine = genuine_at earlier phase lanes_before lanes_after before after call others first lanes_are first_is here front_runs front moment in
             record {
@@ -539,6 +545,7 @@ module _ (setup : Setup) (some : setup.serial ≢ 0) where
                   (past_at earlier front) genuine;
             };
         current = current_at earlier later lanes_before lanes_after before after call bound_here stands.held stands.shown front_runs;
+        judged = entry_judged setup sight call.0 call.1 runs_here (lane_own setup others first (map with_answer before)) (λ request made is. (asked request made is).ends);
       }
 
 pub play_goes_through : PlayGoesThrough
@@ -556,5 +563,5 @@ play_goes_through setup some phases numbers history bound e =
           played_at setup some earlier later phase lanes_before lanes_after before after call lanes_are
           (subst (λ (ps : List PlayedPhase). IsBound (map lanes_in ps)) is bound_plays)
           (subst (λ (ps : List PlayedPhase). PhasesRun setup some ps [] []) is run.run);
-      kept = subst (λ (p : Past). HandlesAreGenuine setup p (objects_after setup.serial [] run.plays)) turned run.kept;
+      kept = subst (λ (p : Past). HandlesAreGenuine setup p (objects_after setup [] run.plays)) turned run.kept;
     }

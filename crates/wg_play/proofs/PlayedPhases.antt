@@ -69,10 +69,10 @@ module _ (setup : Setup) where
     own : AreOwn n plays part
     runs : AllRun setup others first plays
     end : (objects : List Object) → gathered objects (after_part n (starts_from others first lanes) part)
-        ≡ gathered objects (ended_from setup.serial others first (answered_lanes plays))
+        ≡ gathered objects (ended_from setup others first (answered_lanes plays))
 
   lane_end : (start : Sight) (calls : List BoundCall) (entries : List Entry) (run : LaneRuns setup start calls entries)
-      → end_of setup (lane_with start calls) entries ≡ lane_with (after_calls setup.serial start (map with_answer run.plays)) []
+      → end_of setup (lane_with start calls) entries ≡ lane_with (after_calls setup start (map with_answer run.plays)) []
   lane_end start calls entries run =
       let same : calls_in run.plays ++ [] ≡ calls = append-nil (calls_in run.plays) ∙ run.are in
       ap₂ (λ (cs : List BoundCall) (es : List Entry). end_of setup (lane_with start cs) es) (sym same) (sym run.own) ∙ goes_to setup run.plays
@@ -86,7 +86,7 @@ module _ (setup : Setup) where
       let own : List Entry = entries_of_caller n part in
       let one = lane_runs setup calls start own (All-filter (λ (e : Entry). e.who == n) (IsReplied setup) part replied) give.0 in
       let rest = lanes_run others lanes (first + count_made calls) (suc n) part replied give.1 in
-      let sight : Sight = after_calls setup.serial start (map with_answer one.plays) in
+      let sight : Sight = after_calls setup start (map with_answer one.plays) in
       let made_is : count_made calls ≡ count_made (map (λ (c : Answered). c.0) (map with_answer one.plays))
       = ap (λ (cs : List BoundCall). count_made cs) (sym (lane_same one.plays ∙ one.are)) in
       record {
@@ -98,7 +98,7 @@ module _ (setup : Setup) where
             ap (λ (l : LaneState). gathered (objects ++ l.sight.own) (after_part (suc n) (starts_from others (first + count_made calls) lanes) part))
             (lane_end start calls own one)
             ∙ (rest.end (objects ++ sight.own) ∙ ap (λ m. gathered (objects ++ sight.own)
-            (ended_from setup.serial others (first + m) (answered_lanes rest.plays))) made_is);
+            (ended_from setup others (first + m) (answered_lanes rest.plays))) made_is);
       }
 
   all_replied : (part : List Entry) (past : Past) → RepliesAreRight setup past part → All (IsReplied setup) part
@@ -143,7 +143,7 @@ module _ (setup : Setup) where
 
     abbrev pub PhasesRun : List PlayedPhase → List Object → Past → Type 0
     PhasesRun [] objects past = Unit {0}
-    PhasesRun (phase ∷ phases) objects past = PhaseRuns objects past phase × PhasesRun phases (objects_next setup.serial objects phase.lanes)
+    PhasesRun (phase ∷ phases) objects past = PhaseRuns objects past phase × PhasesRun phases (objects_next setup objects phase.lanes)
         (onto past phase.entries)
 
     abbrev pub entries_of : List PlayedPhase → List Entry
@@ -154,7 +154,7 @@ module _ (setup : Setup) where
       pub calls : map lanes_in plays ≡ phases
       pub entries : entries_of plays ≡ log
       pub run : PhasesRun plays objects past
-      pub kept : HandlesAreGenuine setup (onto past log) (objects_after setup.serial objects plays)
+      pub kept : HandlesAreGenuine setup (onto past log) (objects_after setup objects plays)
 
     pub script_runs : (phases : List (List (List BoundCall))) (objects : List Object) (past : Past) (log : List Entry) → HandlesAreGenuine setup past objects
         → Interleaves setup phases objects log → RepliesAreRight setup past log
@@ -175,10 +175,10 @@ module _ (setup : Setup) where
         = λ front back is. sees_at front back ws past (subst (GiveAll 0 ws) is h.3) (λ n le. subst (λ (p : List Entry). entries_of_caller n p ≡ []) is (few n le))
         (subst (RepliesAreRight setup past) is parts.0) sees in
         let end : LanesSee setup (onto past part) (after_part 0 ws part) = at part [] (sym (append-nil part)) in
-        let next : HandlesAreGenuine setup (onto past part) (objects_next setup.serial objects played.lanes)
+        let next : HandlesAreGenuine setup (onto past part) (objects_next setup objects played.lanes)
         = subst (HandlesAreGenuine setup (onto past part)) (lanes.end objects)
         (gathers_genuine setup (onto past part) objects (after_part 0 ws part) (kept_onto part past objects kept) end) in
-        let tail = script_runs phases (objects_next setup.serial objects played.lanes) (onto past part) rest next
+        let tail = script_runs phases (objects_next setup objects played.lanes) (onto past part) rest next
         (subst (λ (os : List Object). Interleaves setup phases os rest) (lanes.end objects) h.5) parts.1 in
         let same : length phase ≡ length lanes.plays = ap (λ (ls : List (List BoundCall)). length ls) (sym lanes.are) ∙ lanes_length lanes.plays in
         record {
@@ -196,7 +196,7 @@ module _ (setup : Setup) where
             },
             tail.run,
           );
-          kept = subst (λ (p : Past). HandlesAreGenuine setup p (objects_after setup.serial (objects_next setup.serial objects played.lanes) tail.plays))
+          kept = subst (λ (p : Past). HandlesAreGenuine setup p (objects_after setup (objects_next setup objects played.lanes) tail.plays))
               (sym (onto_more part rest past) ∙ ap (onto past) (sym whole)) tail.kept;
         }
 
@@ -204,17 +204,17 @@ module _ (setup : Setup) where
 
     pub phase_at : (earlier : List PlayedPhase) (phase : PlayedPhase) (later : List PlayedPhase) (objects : List Object) (past : Past)
         → PhasesRun (earlier ++ phase ∷ later) objects past
-        → PhaseRuns (objects_after setup.serial objects earlier) (onto past (entries_of earlier)) phase
+        → PhaseRuns (objects_after setup objects earlier) (onto past (entries_of earlier)) phase
     phase_at [] phase later objects past run = run.0
     phase_at (first ∷ earlier) phase later objects past run =
-        subst (λ (p : Past). PhaseRuns (objects_after setup.serial (objects_next setup.serial objects first.lanes) earlier) p phase)
+        subst (λ (p : Past). PhaseRuns (objects_after setup (objects_next setup objects first.lanes) earlier) p phase)
         (sym (onto_more first.entries (entries_of earlier) past))
-        (phase_at earlier phase later (objects_next setup.serial objects first.lanes) (onto past first.entries) run.1)
+        (phase_at earlier phase later (objects_next setup objects first.lanes) (onto past first.entries) run.1)
 
     pub all_interleaved : (plays : List PlayedPhase) (objects : List Object) (past : Past) → PhasesRun plays objects past → All IsInterleaved plays
     all_interleaved [] objects past run = All-nil IsInterleaved
     all_interleaved (phase ∷ plays) objects past run = All-cons IsInterleaved phase plays run.0.own
-        (all_interleaved plays (objects_next setup.serial objects phase.lanes) (onto past phase.entries) run.1)
+        (all_interleaved plays (objects_next setup objects phase.lanes) (onto past phase.entries) run.1)
 
   -- ---- a lane at its place
 

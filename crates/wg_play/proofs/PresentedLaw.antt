@@ -218,7 +218,7 @@ own_memory setup past texture e genuine =
 
 module _ (setup : Setup) (plays : List PlayedPhase) (each : EachIsPlayed setup plays) where
   abbrev sight_at : {front : List Entry} {entry : Entry} {call : BoundCall} → GivenAt plays front entry call → Sight
-  sight_at at = sight_after setup.serial at.earlier at.lanes_before at.before
+  sight_at at = sight_after setup at.earlier at.lanes_before at.before
 
   played : (front : List Entry) (entry : Entry) (call : BoundCall) (at : GivenAt plays front entry call) → IsPlayedAt setup at.earlier at.phase at.lanes_before at.before (call, Some entry)
   played front entry call at = each at.earlier at.later at.phase at.lanes_before at.lanes_after at.before at.after (call, Some entry) at.plays_are at.lanes_are
@@ -268,10 +268,10 @@ module _ (setup : Setup) (plays : List PlayedPhase) (each : EachIsPlayed setup p
   canvas_shown : (front : List Entry) (entry : Entry) (call : BoundCall) (at : GivenAt plays front entry call) → Shows (all_calls plays) (sight_at at).own
   canvas_shown front entry call at =
       let calls : List PlayedCall = (call, Some entry) ∷ at.after in
-      lane_shows (all_calls plays) setup.serial (objects_after setup.serial [] at.earlier) (slots_before (map lanes_in at.earlier) (map calls_in at.lanes_before)) at.before (record {
+      lane_shows (all_calls plays) setup (objects_after setup [] at.earlier) (slots_before (map lanes_in at.earlier) (map calls_in at.lanes_before)) at.before (record {
         drawn = λ done next rest is.
             let lane : at.before ++ calls ≡ done ++ next ∷ (rest ++ calls) = ap (λ (cs : List PlayedCall). cs ++ calls) is ∙ append_assoc done (next ∷ rest) calls in
-            drawn_so (sight_after setup.serial at.earlier at.lanes_before done) (calls_in done) next.0 next.1
+            drawn_so (sight_after setup at.earlier at.lanes_before done) (calls_in done) next.0 next.1
             (each at.earlier at.later at.phase at.lanes_before at.lanes_after done (rest ++ calls) next at.plays_are
             (at.lanes_are ∙ ap (λ (cs : List PlayedCall). at.lanes_before ++ cs ∷ at.lanes_after) lane)).how;
         there = λ done next rest is. seen_in front entry call at next (in_right (all_calls at.earlier) at.before next
@@ -352,7 +352,7 @@ pub presents_expire : PresentsExpire
 presents_expire setup phases history run through front back entry call made texture is at event =
     let plays : List PlayedPhase = through.plays in
     let each : EachIsPlayed setup plays = through.each in
-    let sight : Sight = sight_after setup.serial at.earlier at.lanes_before at.before in
+    let sight : Sight = sight_after setup at.earlier at.lanes_before at.before in
     let how : IsDrawnAs sight call (Some entry) = (played setup plays each front entry (Canvas call made) at).how in
     let destroys = canvas_destroys sight call texture (ap (λ (e : Event). Some e) (sym event) ∙ how) in
     let handle : HandleValue = destroys.handle in

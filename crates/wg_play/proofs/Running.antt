@@ -41,12 +41,12 @@ HasVerb sight request = verb_of (event_sent sight request) ≡ verb_of (event_as
 module _ (setup : Setup) where
   -- a call was kept, or became this entry
   abbrev pub RunsAs : Sight → BoundCall → Option Entry → Type 0
-  RunsAs sight call None = kept sight call ≡ Some (after_call setup.serial sight (call, no_answer))
+  RunsAs sight call None = kept sight call ≡ Some (after_call setup sight (call, no_answer))
   RunsAs sight call (Some entry) = (kept sight call ≡ None) × (event_of sight call ≡ entry.event) × IsReplied setup entry
 
   abbrev pub Runs : Sight → List PlayedCall → Type 0
   Runs sight [] = Unit {0}
-  Runs sight (call ∷ calls) = RunsAs sight call.0 call.1 × Runs (after_call setup.serial sight (with_answer call)) calls
+  Runs sight (call ∷ calls) = RunsAs sight call.0 call.1 × Runs (after_call setup sight (with_answer call)) calls
 
   -- ---- the entries that a lane gives, call by call
 
@@ -65,7 +65,7 @@ module _ (setup : Setup) where
       → GivesAll setup (lane_with sight (call ∷ calls)) entries → LaneRuns sight (call ∷ calls) entries
   call_runs call calls goes sight (Some after) is entries replied gives =
       let same = settled_by setup sight call calls (Some after) is in
-      let here : after_call setup.serial sight (call, no_answer) ≡ after = after_is setup sight call no_answer (Some after) is in
+      let here : after_call setup sight (call, no_answer) ≡ after = after_is setup sight call no_answer (Some after) is in
       let more = goes after entries replied (gives_same setup (lane_with sight (call ∷ calls)) (lane_with after calls) same entries gives) in
       record {
         plays = (call, None) ∷ more.plays;
@@ -77,10 +77,10 @@ module _ (setup : Setup) where
   call_runs call calls goes sight None is (e ∷ entries) replied gives =
       let same = settled_by setup sight call calls None is in
       let event : event_of sight call ≡ e.event = cc (ap next_at (sym same) ∙ gives.0) in
-      let after : Sight = answered_by setup.serial sight call e.reply.answer in
-      let here : after_call setup.serial sight (call, e.reply.answer) ≡ after = after_is setup sight call e.reply.answer None is in
+      let after : Sight = answered_by setup sight call e.reply.answer in
+      let here : after_call setup sight (call, e.reply.answer) ≡ after = after_is setup sight call e.reply.answer None is in
       let more = goes after entries (All-tail (IsReplied setup) e entries replied)
-      (subst (λ (l : LaneState). GivesAll setup (after_at setup.serial l e.reply) entries) same gives.1) in
+      (subst (λ (l : LaneState). GivesAll setup (after_at setup l e.reply) entries) same gives.1) in
       record {
         plays = (call, Some e) ∷ more.plays;
         are = ap (λ cs. call ∷ cs) more.are;
@@ -99,23 +99,23 @@ module _ (setup : Setup) where
   abbrev GoesTo : List PlayedCall → List BoundCall → Type 0
   GoesTo before more = (sight : Sight) → Runs sight before
       → end_of setup (lane_with sight (calls_in before ++ more)) (entries_in before)
-      ≡ settle (lane_with (after_calls setup.serial sight (map with_answer before)) more)
+      ≡ settle (lane_with (after_calls setup sight (map with_answer before)) more)
 
   call_goes : (call : BoundCall) (found : Option Entry) (before : List PlayedCall) (more : List BoundCall) → GoesTo before more → (sight : Sight)
       → RunsAs sight call found
-      → Runs (after_call setup.serial sight (with_answer (call, found))) before
+      → Runs (after_call setup sight (with_answer (call, found))) before
       → end_of setup (lane_with sight (call ∷ (calls_in before ++ more))) (option_to_list found ++ entries_in before)
-      ≡ settle (lane_with (after_calls setup.serial (after_call setup.serial sight (with_answer (call, found))) (map with_answer before)) more)
+      ≡ settle (lane_with (after_calls setup (after_call setup sight (with_answer (call, found))) (map with_answer before)) more)
   call_goes call None before more goes sight here runs =
-      let after : Sight = after_call setup.serial sight (call, no_answer) in
+      let after : Sight = after_call setup sight (call, no_answer) in
       let calls : List BoundCall = calls_in before ++ more in
       end_same setup (lane_with sight (call ∷ calls)) (lane_with after calls) (settled_by setup sight call calls (Some after) here) (entries_in before)
       ∙ goes after runs
   call_goes call (Some e) before more goes sight here runs =
-      let after : Sight = after_call setup.serial sight (call, e.reply.answer) in
+      let after : Sight = after_call setup sight (call, e.reply.answer) in
       let calls : List BoundCall = calls_in before ++ more in
-      let is : after ≡ answered_by setup.serial sight call e.reply.answer = after_is setup sight call e.reply.answer None here.0 in
-      ap (λ (l : LaneState). end_of setup (after_at setup.serial l e.reply) (entries_in before)) (settled_by setup sight call calls None here.0)
+      let is : after ≡ answered_by setup sight call e.reply.answer = after_is setup sight call e.reply.answer None here.0 in
+      ap (λ (l : LaneState). end_of setup (after_at setup l e.reply) (entries_in before)) (settled_by setup sight call calls None here.0)
       ∙ (ap (λ (s : Sight). end_of setup (lane_with s calls) (entries_in before)) (sym is) ∙ goes after runs)
 
   pub goes_to : (before : List PlayedCall) (more : List BoundCall) → GoesTo before more
@@ -124,12 +124,12 @@ module _ (setup : Setup) where
 
   pub runs_front : (before rest : List PlayedCall) (sight : Sight) → Runs sight (before ++ rest) → Runs sight before
   runs_front [] rest sight runs = tt
-  runs_front (call ∷ before) rest sight runs = (runs.0, runs_front before rest (after_call setup.serial sight (with_answer call)) runs.1)
+  runs_front (call ∷ before) rest sight runs = (runs.0, runs_front before rest (after_call setup sight (with_answer call)) runs.1)
 
   pub runs_at : (before : List PlayedCall) (call : PlayedCall) (after : List PlayedCall) (sight : Sight) → Runs sight (before ++ call ∷ after)
-      → RunsAs (after_calls setup.serial sight (map with_answer before)) call.0 call.1
+      → RunsAs (after_calls setup sight (map with_answer before)) call.0 call.1
   runs_at [] call after sight runs = runs.0
-  runs_at (first ∷ before) call after sight runs = runs_at before call after (after_call setup.serial sight (with_answer first)) runs.1
+  runs_at (first ∷ before) call after sight runs = runs_at before call after (after_call setup sight (with_answer first)) runs.1
 
   -- ---- its calls are answered
 
@@ -144,7 +144,7 @@ module _ (setup : Setup) where
   lane_answered [] sight runs = All-nil IsAnsweredCall
   lane_answered (call ∷ calls) sight runs =
       All-cons IsAnsweredCall (with_answer call) (map with_answer calls) (call_answered sight call runs.0)
-      (lane_answered calls (after_call setup.serial sight (with_answer call)) runs.1)
+      (lane_answered calls (after_call setup sight (with_answer call)) runs.1)
 
   -- ---- how a call was played
 
@@ -161,7 +161,7 @@ module _ (setup : Setup) where
       → is_late_on sight.own (stand_seen sight on) ≡ is_late_after sight before on → IsRecordedAs sight before on found
   recorded_as sight before on command made None runs same = record {
     late = sym (late_kept (is_late_on sight.own (stand_seen sight on)) (noted_on sight (stand_seen sight on) (command_seen sight command) made)
-        (after_call setup.serial sight (Record on command made, no_answer)) runs) ∙ same;
+        (after_call setup sight (Record on command made, no_answer)) runs) ∙ same;
     event = λ entry e. absurd (cc (e));
   }
   recorded_as sight before on command made (Some e) runs same = record {
@@ -189,7 +189,7 @@ module _ (setup : Setup) where
 
   pub drawn_as : (sight : Sight) (call : CanvasOf ℕ) (made : Option ℕ) (found : Option Entry) → RunsAs sight (Canvas call made) found → IsDrawnAs sight call found
   drawn_as sight call made None runs =
-      let none : canvas_asks sight call ≡ None = drawn_kept (canvas_asks sight call) (drawn sight call made None) (after_call setup.serial sight (Canvas call made, no_answer)) runs in
+      let none : canvas_asks sight call ≡ None = drawn_kept (canvas_asks sight call) (drawn sight call made None) (after_call setup sight (Canvas call made, no_answer)) runs in
       sym (ap (option_map event_asked) none)
   drawn_as sight call made (Some e) runs = drawn_sent (canvas_asks sight call) (drawn sight call made None) e.event runs.0 runs.1
 

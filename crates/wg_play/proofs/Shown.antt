@@ -4,12 +4,14 @@ use Rattle.std.specs.Prelude.{All, option_map, option_and_then}
 use Rattle.std.proofs.lemmas.List.Elements.{All-nil, All-cons, All-append}
 use Rattle.wg_types.specs.Handles.{HandleValue}
 use Rattle.wg_types.specs.Kinds.{kind_of}
+use Rattle.wg_types.specs.declared.limits.Limits.{Limits}
 use Rattle.wg_types.specs.declared.canvases.CanvasOf.{CanvasOf}
 use Rattle.wg_types.specs.declared.handles.Info.{Info}
 use Rattle.wg_trace.specs.declared.replies.Answer.{Answer}
 use Rattle.wg_trace.specs.declared.replies.Answer.TheVariants.{Made}
 use Rattle.wg_types.specs.declared.requests.RequestOf.{RequestOf}
 use Rattle.wg_types.specs.declared.wanted.Kind.TheVariants as kinds
+use Rattle.wg_history.specs.declared.events.Setup.{Setup}
 use Rattle.wg_history.specs.Entries.{Entry}
 use Rattle.wg_calls.specs.Calls.{event_asked, info_asked, handle_of, taken_out}
 use Rattle.wg_script.specs.CallOf.{BoundCall}
@@ -50,34 +52,34 @@ Shows all objects = All (EachHandle Any (GivenIf all)) objects
 
 -- ---- what the device makes for a canvas
 
-answer_of : (serial : ℕ) (known : Option Info) (answer : Answer) (handle : HandleValue) → option_and_then (λ (x : Info). handle_of serial x answer) known ≡ Some handle → IsAnswer serial answer handle
-answer_of serial None answer handle e = absurd (cc (e))
-answer_of serial (Some known) answer handle e = handle_from serial known answer handle e
+answer_of : (setup : Setup) (known : Option Info) (answer : Answer) (handle : HandleValue) → option_and_then (λ (x : Info). handle_of setup.serial x answer) known ≡ Some handle → IsAnswer setup answer handle
+answer_of setup None answer handle e = absurd (cc (e))
+answer_of setup (Some known) answer handle e = handle_from setup known answer handle e
 
-given_answer : (serial : ℕ) (asked : Option (RequestOf HandleValue)) (answer : Answer) (handle : HandleValue) → given_by serial asked answer ≡ Some handle → IsAnswer serial answer handle
-given_answer serial None answer handle e = absurd (cc (e))
-given_answer serial (Some request) answer handle e = answer_of serial (info_asked request) answer handle e
+given_answer : (setup : Setup) (asked : Option (RequestOf HandleValue)) (answer : Answer) (handle : HandleValue) → given_by setup asked answer ≡ Some handle → IsAnswer setup answer handle
+given_answer setup None answer handle e = absurd (cc (e))
+given_answer setup (Some request) answer handle e = answer_of setup (info_asked request) answer handle e
 
-none_asked : (all : List PlayedCall) (serial : ℕ) (asked : Option (RequestOf HandleValue)) (answer : Answer) → None ≡ option_map event_asked asked → GivenIf all (given_by serial asked answer)
-none_asked all serial None answer e = tt
-none_asked all serial (Some request) answer e = absurd (cc (e))
+none_asked : (all : List PlayedCall) (setup : Setup) (asked : Option (RequestOf HandleValue)) (answer : Answer) → None ≡ option_map event_asked asked → GivenIf all (given_by setup asked answer)
+none_asked all setup None answer e = tt
+none_asked all setup (Some request) answer e = absurd (cc (e))
 
-by_entry : (all : List PlayedCall) (serial : ℕ) (sight : Sight) (call : CanvasOf ℕ) (made : Option ℕ) (entry : Entry) → IsMember {X = PlayedCall} (Canvas call made, Some entry) all
-    → (found : Option HandleValue) → given_by serial (canvas_asks sight call) entry.reply.answer ≡ found → GivenIf all found
-by_entry all serial sight call made entry there None e = tt
-by_entry all serial sight call made entry there (Some texture) e = record {
+by_entry : (all : List PlayedCall) (setup : Setup) (sight : Sight) (call : CanvasOf ℕ) (made : Option ℕ) (entry : Entry) → IsMember {X = PlayedCall} (Canvas call made, Some entry) all
+    → (found : Option HandleValue) → given_by setup (canvas_asks sight call) entry.reply.answer ≡ found → GivenIf all found
+by_entry all setup sight call made entry there None e = tt
+by_entry all setup sight call made entry there (Some texture) e = record {
   call = call;
   made = made;
   entry = entry;
   there = there;
-  answer = (given_answer serial (canvas_asks sight call) entry.reply.answer texture e).1;
-  kind = subst IsTexture e (canvas_gives serial sight call entry.reply.answer);
+  answer = (given_answer setup (canvas_asks sight call) entry.reply.answer texture e).1;
+  kind = subst IsTexture e (canvas_gives setup sight call entry.reply.answer);
 }
 
-given_if : (all : List PlayedCall) (serial : ℕ) (sight : Sight) (call : CanvasOf ℕ) (made : Option ℕ) (found : Option Entry) → IsMember {X = PlayedCall} (Canvas call made, found) all → IsDrawnAs sight call found
-    → GivenIf all (given_by serial (canvas_asks sight call) (with_answer (Canvas call made, found)).1)
-given_if all serial sight call made None there drawn = none_asked all serial (canvas_asks sight call) (with_answer (Canvas call made, None)).1 drawn
-given_if all serial sight call made (Some entry) there drawn = by_entry all serial sight call made entry there (given_by serial (canvas_asks sight call) entry.reply.answer) refl
+given_if : (all : List PlayedCall) (setup : Setup) (sight : Sight) (call : CanvasOf ℕ) (made : Option ℕ) (found : Option Entry) → IsMember {X = PlayedCall} (Canvas call made, found) all → IsDrawnAs sight call found
+    → GivenIf all (given_by setup (canvas_asks sight call) (with_answer (Canvas call made, found)).1)
+given_if all setup sight call made None there drawn = none_asked all setup (canvas_asks sight call) (with_answer (Canvas call made, None)).1 drawn
+given_if all setup sight call made (Some entry) there drawn = by_entry all setup sight call made entry there (given_by setup (canvas_asks sight call) entry.reply.answer) refl
 
 -- ---- calls of a lane, one after another
 
@@ -96,49 +98,49 @@ ended_shows : (all : List PlayedCall) (sight : Sight) (ended : Option ℕ) → S
 ended_shows all sight None shows = shows
 ended_shows all sight (Some encoder) shows = recorder_has Any (GivenIf all) tt taken_out sight.own (place_in sight encoder) shows
 
-kept_shows : (all : List PlayedCall) (objects : List Object) (handle : Option HandleValue) → Shows all objects → Shows all (with_kept objects handle)
-kept_shows all objects None shows = shows
-kept_shows all objects (Some handle) shows =
-    All-append (EachHandle Any (GivenIf all)) objects (object_of handle ∷ []) shows (All-cons (EachHandle Any (GivenIf all)) (object_of handle) [] tt (All-nil (EachHandle Any (GivenIf all))))
+kept_shows : (all : List PlayedCall) (limits : Limits) (objects : List Object) (handle : Option HandleValue) → Shows all objects → Shows all (with_kept limits objects handle)
+kept_shows all limits objects None shows = shows
+kept_shows all limits objects (Some handle) shows =
+    All-append (EachHandle Any (GivenIf all)) objects (object_of limits handle ∷ []) shows (All-cons (EachHandle Any (GivenIf all)) (object_of limits handle) [] tt (All-nil (EachHandle Any (GivenIf all))))
 
-call_shows : (all : List PlayedCall) (serial : ℕ) (sight : Sight) (call : BoundCall) (found : Option Entry) → IsMember {X = PlayedCall} (call, found) all → DrawnAs sight call found → Shows all sight.own
-    → Shows all (after_call serial sight (with_answer (call, found))).own
-call_shows all serial sight (Record on command made) found there drawn shows =
-    subst (λ (s : Sight). Shows all s.own) (sym (after_record serial sight on command made (with_answer (Record on command made, found)).1))
+call_shows : (all : List PlayedCall) (setup : Setup) (sight : Sight) (call : BoundCall) (found : Option Entry) → IsMember {X = PlayedCall} (call, found) all → DrawnAs sight call found → Shows all sight.own
+    → Shows all (after_call setup sight (with_answer (call, found))).own
+call_shows all setup sight (Record on command made) found there drawn shows =
+    subst (λ (s : Sight). Shows all s.own) (sym (after_record setup sight on command made (with_answer (Record on command made, found)).1))
     (noted_has Any (GivenIf all) tt sight.own (stand_seen sight on) (command_seen sight command) made shows)
-call_shows all serial sight (Ask request made) found there drawn shows =
+call_shows all setup sight (Ask request made) found there drawn shows =
     let answer : Answer = (with_answer (Ask request made, found)).1 in
-    subst (λ (s : Sight). Shows all s.own) (sym (after_ask serial sight request made answer))
-    (kept_shows all (ended_on sight (ended_by request)) (handle_kept serial sight request made answer) (ended_shows all sight (ended_by request) shows))
-call_shows all serial sight (Canvas call made) found there drawn shows =
+    subst (λ (s : Sight). Shows all s.own) (sym (after_ask setup sight request made answer))
+    (kept_shows all setup.limits (ended_on sight (ended_by request)) (handle_kept setup sight request made answer) (ended_shows all sight (ended_by request) shows))
+call_shows all setup sight (Canvas call made) found there drawn shows =
     let answer : Answer = (with_answer (Canvas call made, found)).1 in
-    let given : Option HandleValue = given_by serial (canvas_asks sight call) answer in
-    subst (λ (s : Sight). Shows all s.own) (sym (after_canvas serial sight call made answer))
-    (drawn_has Any (GivenIf all) tt sight call made given (given_if all serial sight call made found there drawn) shows)
+    let given : Option HandleValue = given_by setup (canvas_asks sight call) answer in
+    subst (λ (s : Sight). Shows all s.own) (sym (after_canvas setup sight call made answer))
+    (drawn_has Any (GivenIf all) tt sight call made given (given_if all setup sight call made found there drawn) shows)
 
-abbrev pub sight_with : ℕ → Sight → List PlayedCall → Sight
-sight_with serial start calls = after_calls serial start (map with_answer calls)
+abbrev pub sight_with : Setup → Sight → List PlayedCall → Sight
+sight_with setup start calls = after_calls setup start (map with_answer calls)
 
-sight_more : (serial : ℕ) (start : Sight) (calls : List PlayedCall) (call : PlayedCall) → sight_with serial start (calls ++ call ∷ []) ≡ after_call serial (sight_with serial start calls) (with_answer call)
-sight_more serial start [] call = refl
-sight_more serial start (first ∷ calls) call = sight_more serial (after_call serial start (with_answer first)) calls call
+sight_more : (setup : Setup) (start : Sight) (calls : List PlayedCall) (call : PlayedCall) → sight_with setup start (calls ++ call ∷ []) ≡ after_call setup (sight_with setup start calls) (with_answer call)
+sight_more setup start [] call = refl
+sight_more setup start (first ∷ calls) call = sight_more setup (after_call setup start (with_answer first)) calls call
 
 -- calls of these, each of which was played as what it is
-pub record AreDrawn (all : List PlayedCall) (serial : ℕ) (start : Sight) (calls : List PlayedCall) : Type 0 where
-  pub drawn : (front : List PlayedCall) (call : PlayedCall) (back : List PlayedCall) → calls ≡ front ++ call ∷ back → DrawnAs (sight_with serial start front) call.0 call.1
+pub record AreDrawn (all : List PlayedCall) (setup : Setup) (start : Sight) (calls : List PlayedCall) : Type 0 where
+  pub drawn : (front : List PlayedCall) (call : PlayedCall) (back : List PlayedCall) → calls ≡ front ++ call ∷ back → DrawnAs (sight_with setup start front) call.0 call.1
   pub there : (front : List PlayedCall) (call : PlayedCall) (back : List PlayedCall) → calls ≡ front ++ call ∷ back → IsMember call all
 
-all_show : (all : List PlayedCall) (serial : ℕ) (start : Sight) (calls : List PlayedCall) → AreDrawn all serial start calls → (done rest : List PlayedCall) → calls ≡ done ++ rest
-    → Shows all (sight_with serial start done).own → Shows all (sight_with serial start calls).own
-all_show all serial start calls are done [] is shows =
-    subst (λ (cs : List PlayedCall). Shows all (sight_with serial start cs).own) (sym (append-nil done) ∙ sym is) shows
-all_show all serial start calls are done (call ∷ rest) is shows =
-    all_show all serial start calls are (done ++ call ∷ []) rest (is ∙ sym (append_assoc done (call ∷ []) rest))
-    (subst (λ (s : Sight). Shows all s.own) (sym (sight_more serial start done call))
-    (call_shows all serial (sight_with serial start done) call.0 call.1 (are.there done call rest is) (are.drawn done call rest is) shows))
+all_show : (all : List PlayedCall) (setup : Setup) (start : Sight) (calls : List PlayedCall) → AreDrawn all setup start calls → (done rest : List PlayedCall) → calls ≡ done ++ rest
+    → Shows all (sight_with setup start done).own → Shows all (sight_with setup start calls).own
+all_show all setup start calls are done [] is shows =
+    subst (λ (cs : List PlayedCall). Shows all (sight_with setup start cs).own) (sym (append-nil done) ∙ sym is) shows
+all_show all setup start calls are done (call ∷ rest) is shows =
+    all_show all setup start calls are (done ++ call ∷ []) rest (is ∙ sym (append_assoc done (call ∷ []) rest))
+    (subst (λ (s : Sight). Shows all s.own) (sym (sight_more setup start done call))
+    (call_shows all setup (sight_with setup start done) call.0 call.1 (are.there done call rest is) (are.drawn done call rest is) shows))
 
 -- So it is of what a lane has made.
-pub lane_shows : (all : List PlayedCall) (serial : ℕ) (others : List Object) (first : ℕ) (calls : List PlayedCall) → AreDrawn all serial (record { others = others; first = first; own = [] }) calls
-    → Shows all (sight_with serial (record { others = others; first = first; own = [] }) calls).own
-lane_shows all serial others first calls are =
-    all_show all serial (record { others = others; first = first; own = [] }) calls are [] calls refl (All-nil (EachHandle Any (GivenIf all)))
+pub lane_shows : (all : List PlayedCall) (setup : Setup) (others : List Object) (first : ℕ) (calls : List PlayedCall) → AreDrawn all setup (record { others = others; first = first; own = [] }) calls
+    → Shows all (sight_with setup (record { others = others; first = first; own = [] }) calls).own
+lane_shows all setup others first calls are =
+    all_show all setup (record { others = others; first = first; own = [] }) calls are [] calls refl (All-nil (EachHandle Any (GivenIf all)))

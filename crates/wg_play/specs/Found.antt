@@ -20,6 +20,7 @@ use Rattle.wg_types.specs.declared.wanted.Wanted.{Wanted}
 use Rattle.wg_canvas.specs.Canvases.{CanvasValue, HasTexture}
 use Rattle.wg_canvas.specs.declared.canvas.Stage.TheVariants.{Unset}
 use Rattle.wg_encoder.specs.Recorders.{RecorderValue}
+use Rattle.wg_history.specs.declared.events.Setup.{Setup}
 use Rattle.wg_history.specs.Entries.{verb_of}
 use Rattle.wg_calls.specs.Calls.{event_asked}
 use Rattle.wg_script.specs.CallOf.{BoundCall}
@@ -184,16 +185,16 @@ abbrev pub BoundIsFound : Type 0
 BoundIsFound = (earlier later : List (List (List BoundCall))) (lanes_before lanes_after : List (List BoundCall)) (before : List Answered) (call : BoundCall) (after : List BoundCall)
     → IsBound (earlier ++ (lanes_before ++ (map (λ c. c.0) before ++ call ∷ after) ∷ lanes_after) ∷ later)
     → All IsAnsweredCall before
-    → (serial : ℕ) (others : List Object) → SlotsStand others (flat_map (flat_map made_in) earlier)
-    → CallIsFound (after_calls serial (record { others = others; first = slots_before earlier lanes_before; own = [] }) before)
+    → (setup : Setup) (others : List Object) → SlotsStand others (flat_map (flat_map made_in) earlier)
+    → CallIsFound (after_calls setup (record { others = others; first = slots_before earlier lanes_before; own = [] }) before)
     (flat_map (flat_map made_in) earlier ++ made_in (map (λ c. c.0) before)) call
 
 -- the lanes of a phase after all their calls, from the lane on whose first slot is this
-abbrev pub ended_from : ℕ → List Object → ℕ → List (List Answered) → List LaneState
-ended_from serial others first [] = []
-ended_from serial others first (calls ∷ lanes) =
-    record { sight = after_calls serial (record { others = others; first = first; own = [] }) calls; left = [] }
-    ∷ ended_from serial others (first + count_made (map (λ c. c.0) calls)) lanes
+abbrev pub ended_from : Setup → List Object → ℕ → List (List Answered) → List LaneState
+ended_from setup others first [] = []
+ended_from setup others first (calls ∷ lanes) =
+    record { sight = after_calls setup (record { others = others; first = first; own = [] }) calls; left = [] }
+    ∷ ended_from setup others (first + count_made (map (λ c. c.0) calls)) lanes
 
 -- the calls of lanes that were answered
 abbrev pub phase_of : List (List Answered) → List (List BoundCall)
@@ -204,5 +205,5 @@ abbrev pub GatheredIsHeld : Type 0
 GatheredIsHeld = (earlier later : List (List (List BoundCall))) (lanes : List (List Answered))
     → IsBound (earlier ++ phase_of lanes ∷ later)
     → All (All IsAnsweredCall) lanes
-    → (serial : ℕ) (others : List Object) → SlotsStand others (flat_map (flat_map made_in) earlier)
-    → SlotsStand (gathered others (ended_from serial others (length others) lanes)) (flat_map (flat_map made_in) (earlier ++ phase_of lanes ∷ []))
+    → (setup : Setup) (others : List Object) → SlotsStand others (flat_map (flat_map made_in) earlier)
+    → SlotsStand (gathered others (ended_from setup others (length others) lanes)) (flat_map (flat_map made_in) (earlier ++ phase_of lanes ∷ []))

@@ -4,6 +4,7 @@ use Rattle.std.specs.Option.{option_map_or}
 use Rattle.wg_types.specs.Handles.{HandleValue}
 use Rattle.wg_types.specs.declared.commands.CommandOf.{CommandOf}
 use Rattle.wg_types.specs.declared.handles.Info.{Info}
+use Rattle.wg_types.specs.declared.limits.Limits.{Limits}
 use Rattle.wg_types.specs.Commands.{Command, map_refs}
 use Rattle.wg_types.specs.Requests.{map_refs as map_asked}
 use Rattle.wg_types.specs.declared.canvases.CanvasCall.{CanvasCall}
@@ -14,6 +15,7 @@ use Rattle.wg_trace.specs.declared.replies.Reply.{Reply}
 use Rattle.wg_types.specs.declared.requests.RequestOf.{RequestOf}
 use Rattle.wg_canvas.specs.declared.canvas.Stage.TheVariants.{Unset}
 use Rattle.wg_encoder.specs.Recorders.{RecorderValue}
+use Rattle.wg_history.specs.declared.events.Setup.{Setup}
 use Rattle.wg_history.specs.declared.events.Event.{Event}
 use Rattle.wg_history.specs.declared.events.Event.TheVariants.{Late}
 use Rattle.wg_script.specs.CallOf.{BoundCall}
@@ -113,23 +115,23 @@ taken_by sight (Ask request made) = option_map_or (λ encoder. record sight { ow
 taken_by sight (Canvas call made) = sight
 
 -- the handle of what was made by this answer, of which so much is known, if something was made
-abbrev pub handle_known : ℕ → Option Info → Answer → Option HandleValue
-handle_known serial info answer = option_and_then (λ known. handle_of serial known answer) info
+abbrev pub handle_known : Setup → Option Info → Answer → Option HandleValue
+handle_known setup info answer = option_and_then (λ known. handle_of setup.serial known answer) info
 
 -- the handle of what a call of the device has made that was answered so, if it makes something that has a slot
-abbrev pub handle_kept : ℕ → Sight → RequestOf ℕ → Option ℕ → Answer → Option HandleValue
-handle_kept serial sight request made answer = option_and_then (λ slot. handle_known serial (info_sent sight request) answer) made
+abbrev pub handle_kept : Setup → Sight → RequestOf ℕ → Option ℕ → Answer → Option HandleValue
+handle_kept setup sight request made answer = option_and_then (λ slot. handle_known setup (info_sent sight request) answer) made
 
--- what the lane sees once the event was answered: what it has made has the next slot
-abbrev pub with_handle : Sight → Option HandleValue → Sight
-with_handle sight None = sight
-with_handle sight (Some handle) = with_more sight (object_of handle ∷ [])
+-- what the lane sees once a device with these limits has answered the event: what it has made has the next slot
+abbrev pub with_handle : Limits → Sight → Option HandleValue → Sight
+with_handle limits sight None = sight
+with_handle limits sight (Some handle) = with_more sight (object_of limits handle ∷ [])
 
 -- what a lane sees after a call that was answered so
-abbrev pub answered_by : ℕ → Sight → BoundCall → Answer → Sight
-answered_by serial sight (Record on command made) answer = taken_by sight (Record on command made)
-answered_by serial sight (Ask request made) answer = with_handle (taken_by sight (Ask request made)) (handle_kept serial sight request made answer)
-answered_by serial sight (Canvas call made) answer = drawn sight call made (given_by serial (canvas_asks sight call) answer)
+abbrev pub answered_by : Setup → Sight → BoundCall → Answer → Sight
+answered_by setup sight (Record on command made) answer = taken_by sight (Record on command made)
+answered_by setup sight (Ask request made) answer = with_handle setup.limits (taken_by sight (Ask request made)) (handle_kept setup sight request made answer)
+answered_by setup sight (Canvas call made) answer = drawn sight call made (given_by setup (canvas_asks sight call) answer)
 
 -- ---- lanes
 
@@ -161,17 +163,17 @@ abbrev pub next_event : LaneState → Option Event
 next_event lane = next_at (settle lane)
 
 -- a lane after its next call was replied to so, by its calls
-abbrev pub after_of : ℕ → Sight → Reply → List BoundCall → LaneState
-after_of serial sight reply [] = record { sight = sight; left = [] }
-after_of serial sight reply (call ∷ calls) = record { sight = answered_by serial sight call reply.answer; left = calls }
+abbrev pub after_of : Setup → Sight → Reply → List BoundCall → LaneState
+after_of setup sight reply [] = record { sight = sight; left = [] }
+after_of setup sight reply (call ∷ calls) = record { sight = answered_by setup sight call reply.answer; left = calls }
 
 -- a lane after its next call was replied to so
-abbrev pub after_at : ℕ → LaneState → Reply → LaneState
-after_at serial lane reply = after_of serial lane.sight reply lane.left
+abbrev pub after_at : Setup → LaneState → Reply → LaneState
+after_at setup lane reply = after_of setup lane.sight reply lane.left
 
 -- the lane once its next event was replied to
-abbrev pub after_reply : ℕ → LaneState → Reply → LaneState
-after_reply serial lane reply = after_at serial (settle lane) reply
+abbrev pub after_reply : Setup → LaneState → Reply → LaneState
+after_reply setup lane reply = after_at setup (settle lane) reply
 
 -- ---- phases
 

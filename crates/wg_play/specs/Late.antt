@@ -16,6 +16,7 @@ use Rattle.wg_names.specs.Bound.{made_in, IsBound}
 use Rattle.wg_names.specs.Uses.{made_of}
 use Rattle.wg_play.specs.declared.objects.Object.{Object}
 use Rattle.wg_play.specs.declared.objects.Stand.{Stand}
+use Rattle.wg_history.specs.declared.events.Setup.{Setup}
 use Rattle.wg_calls.specs.Encoders.{ended_by}
 use Rattle.wg_play.specs.Objects.{recorder_at, is_late_on}
 use Rattle.wg_play.specs.Sights.{Sight}
@@ -51,13 +52,13 @@ abbrev pub IsAnsweredCall : Answered → Type 0
 IsAnsweredCall call = IsAnswerTo call.0 call.1
 
 -- what the lane sees after a call: it is kept, or it is an event and is answered
-abbrev pub after_call : ℕ → Sight → Answered → Sight
-after_call serial sight call = unwrap_or (kept sight call.0) (answered_by serial sight call.0 call.1)
+abbrev pub after_call : Setup → Sight → Answered → Sight
+after_call setup sight call = unwrap_or (kept sight call.0) (answered_by setup sight call.0 call.1)
 
 -- what the lane sees after calls, one after another
-abbrev pub after_calls : ℕ → Sight → List Answered → Sight
-after_calls serial sight [] = sight
-after_calls serial sight (call ∷ calls) = after_calls serial (after_call serial sight call) calls
+abbrev pub after_calls : Setup → Sight → List Answered → Sight
+after_calls setup sight [] = sight
+after_calls setup sight (call ∷ calls) = after_calls setup (after_call setup sight call) calls
 
 -- ---- where a lane begins
 
@@ -102,8 +103,8 @@ abbrev pub LateIsFinished : Type 0
 LateIsFinished = (earlier later : List (List (List BoundCall))) (lanes_before lanes_after : List (List BoundCall)) (before : List Answered) (after : List BoundCall) (on : ℕ) (command : CommandOf ℕ) (made : Option ℕ)
     → IsBound (earlier ++ (lanes_before ++ (map (λ call. call.0) before ++ Record on command made ∷ after) ∷ lanes_after) ∷ later)
     → All IsAnsweredCall before
-    → (serial : ℕ) (others : List Object)
+    → (setup : Setup) (others : List Object)
     → let first = slots_before earlier lanes_before in
-    let sight = after_calls serial (record { others = others; first = first; own = [] }) before in
+    let sight = after_calls setup (record { others = others; first = first; own = [] }) before in
     let stand = stand_seen sight on in
     is_late_on sight.own stand ≡ list_any (finishes (first + stand.encoder)) (map (λ call. call.0) before) || has_pass_ended sight.own stand

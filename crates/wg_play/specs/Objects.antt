@@ -5,6 +5,7 @@ use Rattle.std.specs.Option.{option_map_or}
 use Rattle.wg_types.specs.Handles.{HandleValue}
 use Rattle.wg_types.specs.declared.handles.ObjRef.{ObjRef}
 use Rattle.wg_types.specs.declared.handles.Info.TheVariants as info
+use Rattle.wg_types.specs.declared.limits.Limits.{Limits}
 use Rattle.wg_types.specs.declared.commands.On.{On}
 use Rattle.wg_types.specs.declared.commands.On.TheVariants.{Encoder, Pass}
 use Rattle.wg_types.specs.Commands.{Command, kind_begun}
@@ -97,6 +98,6 @@ begun_by objects encoder command made = option_map_or (λ slot. option_map_or (�
 abbrev pub taken_on : List Object → ℕ → List Object
 taken_on objects place = with_recorder objects place taken_out
 
--- an object that was made, an encoder with a recorder that has kept nothing
-abbrev pub object_of : HandleValue → Object
-object_of handle = object.Made handle (recorder_of handle.reference handle.info)
+-- an object that a device with these limits made, an encoder with a recorder that has kept nothing
+abbrev pub object_of : Limits → HandleValue → Object
+object_of limits handle = object.Made handle (recorder_of limits handle.reference handle.info)

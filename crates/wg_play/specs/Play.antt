@@ -29,7 +29,7 @@ callers_for phases = most_lanes 1 phases
 
 module _ (setup : Setup) where
   abbrev pub after_ : LaneState → Reply → LaneState
-  after_ = after_reply setup.serial
+  after_ = after_reply setup
 
   -- the phases from here on, by these numbers
   abbrev pub phases_by : List (List (List BoundCall)) → List Object → List ℕ → Past → Option Past

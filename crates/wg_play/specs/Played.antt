@@ -18,6 +18,7 @@ use Rattle.wg_history.specs.Rules.{is_genuine}
 use Rattle.wg_history.specs.Answers.{Run}
 use Rattle.wg_canvas.specs.Canvases.{texture_of}
 use Rattle.wg_calls.specs.Calls.{event_asked}
+use Rattle.wg_calls.specs.Judged.{IsJudgedBy}
 use Rattle.wg_script.specs.CallOf.{BoundCall}
 use Rattle.wg_script.specs.declared.calls.CallOf.TheVariants.{Record, Ask, Canvas}
 use Rattle.wg_names.specs.Bound.{IsBound}
@@ -71,18 +72,18 @@ abbrev pub answered_lanes : List (List PlayedCall) → List (List Answered)
 answered_lanes lanes = map (λ calls. map with_answer calls) lanes
 
 -- the objects after a phase
-abbrev pub objects_next : ℕ → List Object → List (List PlayedCall) → List Object
-objects_next serial objects lanes = gathered objects (ended_from serial objects (length objects) (answered_lanes lanes))
+abbrev pub objects_next : Setup → List Object → List (List PlayedCall) → List Object
+objects_next setup objects lanes = gathered objects (ended_from setup objects (length objects) (answered_lanes lanes))
 
 -- the objects after some phases
-abbrev pub objects_after : ℕ → List Object → List PlayedPhase → List Object
-objects_after serial objects [] = objects
-objects_after serial objects (phase ∷ phases) = objects_after serial (objects_next serial objects phase.lanes) phases
+abbrev pub objects_after : Setup → List Object → List PlayedPhase → List Object
+objects_after setup objects [] = objects
+objects_after setup objects (phase ∷ phases) = objects_after setup (objects_next setup objects phase.lanes) phases
 
 -- What a lane sees after these calls of it, where earlier phases were played so, and these lanes of its phase go before it.
-abbrev pub sight_after : ℕ → List PlayedPhase → List (List PlayedCall) → List PlayedCall → Sight
-sight_after serial earlier lanes before = after_calls serial
-    (record { others = objects_after serial [] earlier; first = slots_before (map lanes_in earlier) (map calls_in lanes); own = [] })
+abbrev pub sight_after : Setup → List PlayedPhase → List (List PlayedCall) → List PlayedCall → Sight
+sight_after setup earlier lanes before = after_calls setup
+    (record { others = objects_after setup [] earlier; first = slots_before (map lanes_in earlier) (map calls_in lanes); own = [] })
     (map with_answer before)
 
 -- the calls whose objects it sees then: those of earlier phases, and its own
@@ -151,25 +152,25 @@ pub record StandsForMade (setup : Setup) (past : Past) (sight : Sight) (seen : L
   pub of : IsOfCall setup past (handle_in_sight sight used.0) maker.0 maker.1
 
 -- the calls of a lane, each with what the lane saw before it
-abbrev pub with_sights : ℕ → Sight → List PlayedCall → List (Sight × PlayedCall)
-with_sights serial sight [] = []
-with_sights serial sight (call ∷ calls) = (sight, call) ∷ with_sights serial (after_call serial sight (with_answer call)) calls
+abbrev pub with_sights : Setup → Sight → List PlayedCall → List (Sight × PlayedCall)
+with_sights setup sight [] = []
+with_sights setup sight (call ∷ calls) = (sight, call) ∷ with_sights setup (after_call setup sight (with_answer call)) calls
 
 -- those of the lanes of a phase, from the lane on whose first slot is this, each with what its lane saw before it
-abbrev pub lanes_sights : ℕ → List Object → ℕ → List (List PlayedCall) → List (Sight × PlayedCall)
-lanes_sights serial others first [] = []
-lanes_sights serial others first (calls ∷ lanes) =
-    with_sights serial (record { others = others; first = first; own = [] }) calls ++ lanes_sights serial others (first + count_made (calls_in calls)) lanes
+abbrev pub lanes_sights : Setup → List Object → ℕ → List (List PlayedCall) → List (Sight × PlayedCall)
+lanes_sights setup others first [] = []
+lanes_sights setup others first (calls ∷ lanes) =
+    with_sights setup (record { others = others; first = first; own = [] }) calls ++ lanes_sights setup others (first + count_made (calls_in calls)) lanes
 
 -- those of phases, which begin with these objects, each with what its lane saw before it
-abbrev pub phases_sights : ℕ → List Object → List PlayedPhase → List (Sight × PlayedCall)
-phases_sights serial objects [] = []
-phases_sights serial objects (phase ∷ phases) = lanes_sights serial objects (length objects) phase.lanes ++ phases_sights serial (objects_next serial objects phase.lanes) phases
+abbrev pub phases_sights : Setup → List Object → List PlayedPhase → List (Sight × PlayedCall)
+phases_sights setup objects [] = []
+phases_sights setup objects (phase ∷ phases) = lanes_sights setup objects (length objects) phase.lanes ++ phases_sights setup (objects_next setup objects phase.lanes) phases
 
 -- the calls whose objects a lane sees, as `seen_calls` has them, each with what its lane saw before it
-abbrev pub seen_with : ℕ → List PlayedPhase → List (List PlayedCall) → List PlayedCall → List (Sight × PlayedCall)
-seen_with serial earlier lanes before = phases_sights serial [] earlier
-    ++ with_sights serial (record { others = objects_after serial [] earlier; first = slots_before (map lanes_in earlier) (map calls_in lanes); own = [] }) before
+abbrev pub seen_with : Setup → List PlayedPhase → List (List PlayedCall) → List PlayedCall → List (Sight × PlayedCall)
+seen_with setup earlier lanes before = phases_sights setup [] earlier
+    ++ with_sights setup (record { others = objects_after setup [] earlier; first = slots_before (map lanes_in earlier) (map calls_in lanes); own = [] }) before
 
 -- the current texture of a canvas of a lane, if it has one
 abbrev pub current_seen : Sight → ℕ → Option HandleValue
@@ -197,14 +198,19 @@ pub record SeesMade (setup : Setup) (past : Past) (sight : Sight) (seen : List P
   pub genuine : SeesGenuine setup past sight
   pub names : All (StandsForMade setup past sight seen) (uses_of call)
 
+-- An entry that ends an encoder hands over what was recorded for the device, so that it is judged by the number and the limits of that.
+abbrev pub IsJudgedAs : Setup → Option Entry → Type 0
+IsJudgedAs setup found = (entry : Entry) → found ≡ Some entry → IsJudgedBy setup entry.event
+
 -- A call was played as what it is; so are the names that it uses at each moment from the last entry of the calls before it to its own,
--- or to the lane's next; and each name of a texture that was there stands for that.
+-- or to the lane's next; each name of a texture that was there stands for that; and what it ends is judged by the limits of the device.
 pub record IsPlayedAt (setup : Setup) (earlier : List PlayedPhase) (phase : PlayedPhase) (lanes : List (List PlayedCall))
     (before : List PlayedCall) (call : PlayedCall) : Type 0 where
-  pub how : IsPlayedAs (sight_after setup.serial earlier lanes before) (calls_in before) call.0 call.1
+  pub how : IsPlayedAs (sight_after setup earlier lanes before) (calls_in before) call.0 call.1
   pub sees : (front : List Entry) → IsMoment phase (length lanes) before front
-      → SeesMade setup (past_at earlier front) (sight_after setup.serial earlier lanes before) (seen_calls earlier before) call.0
-  pub current : ShowsCurrent (sight_after setup.serial earlier lanes before) (seen_with setup.serial earlier lanes before)
+      → SeesMade setup (past_at earlier front) (sight_after setup earlier lanes before) (seen_calls earlier before) call.0
+  pub current : ShowsCurrent (sight_after setup earlier lanes before) (seen_with setup earlier lanes before)
+  pub judged : IsJudgedAs setup call.1
 
 -- each call of a script, whatever phases, lanes and calls go before and after it
 abbrev pub EachIsPlayed : Setup → List PlayedPhase → Type 0
@@ -223,7 +229,7 @@ pub record IsPlayedThrough (setup : Setup) (phases : List (List (List BoundCall)
   pub entries : flat_map (λ phase. phase.entries) plays ≡ history
   pub lanes : All IsInterleaved plays
   pub each : EachIsPlayed setup plays
-  pub kept : HandlesAreGenuine setup (reverse history) (objects_after setup.serial [] plays)
+  pub kept : HandlesAreGenuine setup (reverse history) (objects_after setup [] plays)
 
 -- ---- the laws
 

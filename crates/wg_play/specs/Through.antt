@@ -18,7 +18,7 @@ pub record GoesThrough (setup : Setup) (lane : LaneState) (entries : List Entry)
   pub calls : List Answered
   pub are : map (λ call. call.0) calls ≡ lane.left
   pub answered : All IsAnsweredCall calls
-  pub end : settle (after_all next_event (after_ setup) lane entries) ≡ record { sight = after_calls setup.serial lane.sight calls; left = [] }
+  pub end : settle (after_all next_event (after_ setup) lane entries) ≡ record { sight = after_calls setup lane.sight calls; left = [] }
 
 -- What is said of the calls of lanes with any answers is said of the lanes of each history.
 abbrev pub LanesGoThrough : Type 0

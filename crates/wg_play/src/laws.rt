@@ -36,7 +36,8 @@ pub fn genuine_handles()
 /// Where an order of turns gives a history, its numbers are the callers of that, every reply is the one to
 /// its event, and each phase's lanes give their entries. Where the script's names are bound, each of its
 /// calls is played as what it is: kept, late or an event, with each name standing for what its call has
-/// made; and every handle that the lane sees is genuine in the history by then.
+/// made; every handle that the lane sees is genuine in the history by then; and each encoder that is ended is
+/// judged by the number and the limits of the device.
 pub fn played_scripts()
     ensures interleaves { PlayInterleaves }
     ensures through { PlayGoesThrough }

@@ -15,6 +15,7 @@ use wg_encoder::{Noted, Recorder};
 use wg_entry::NoMemory;
 use wg_types::commands::{Command, On};
 use wg_types::handles::{Handle, Info, ObjRef};
+use wg_types::limits::Limits;
 
 /// What a call has made: an object as its caller holds it, with the recorder of an encoder; a pass, by the
 /// place of its encoder and its number there; a canvas; or a name for the texture of one, if it has one.
@@ -176,10 +177,10 @@ pub fn begun_by(
     }
 }
 
-/// An object that was made.
-pub fn object_of(alloc: Global, handle: Handle) -> Result<Object, NoMemory>
-    ensures { IfOk result (λ object. object ≡ object_of handle) }
+/// An object that a device with these limits made.
+pub fn object_of(alloc: Global, handle: Handle, limits: &Limits) -> Result<Object, NoMemory>
+    ensures { IfOk result (λ object. object ≡ object_of limits.now handle) }
 {
-    let recorder = recorder_of(alloc, handle.reference(), handle.info())?;
+    let recorder = recorder_of(alloc, handle.reference(), handle.info(), limits)?;
     Ok(Object::Made { handle, recorder })
 }

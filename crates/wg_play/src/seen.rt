@@ -10,6 +10,7 @@ use std::alloc::Global;
 use wg_entry::NoMemory;
 use wg_script::BoundCall;
 use wg_types::handles::Handle;
+use wg_types::limits::Limits;
 
 /// What a lane sees: what earlier phases made, by their slots, which are those from 0 on; and what it has
 /// made itself, whose slots are those from `first` on.
@@ -49,15 +50,20 @@ impl LaneSight<'_> {
         Ok(())
     }
 
-    /// Adds the object of a handle, if there is one.
-    pub fn add_handle(&mut self, alloc: Global, handle: Option<Handle>) -> Result<(), NoMemory>
+    /// Adds the object of a handle, if there is one, which a device with these limits made.
+    pub fn add_handle(
+        &mut self,
+        alloc: Global,
+        handle: Option<Handle>,
+        limits: &Limits,
+    ) -> Result<(), NoMemory>
         ensures same { SeesSame self.old self.new }
-        ensures added { OnOk result (sight_of self.new ≡ with_handle (sight_of self.old) handle) }
+        ensures added { OnOk result (sight_of self.new ≡ with_handle limits.now (sight_of self.old) handle) }
         ensures unchanged { OnErr result (sight_of self.new ≡ sight_of self.old) }
     {
         match handle {
             Some(handle) => {
-                let object = object_of(alloc, handle)?;
+                let object = object_of(alloc, handle, limits)?;
                 self.add(object)
             }
             None => Ok(()),

@@ -4,6 +4,7 @@ use Rattle.std.proofs.lemmas.Bool.Decides.{nat_tests}
 use Rattle.std.proofs.lemmas.List.{take_more}
 use Rattle.std.proofs.lemmas.List.Elements.{All-nil, All-cons}
 use mathlib.Core.List.{IsPrefix}
+use Rattle.wg_history.specs.declared.events.Setup.{Setup}
 use Rattle.wg_history.specs.Entries.{Entry}
 use Rattle.wg_turn.specs.Passes.{IsPassOf, IsSamePass, opened_with}
 use Rattle.wg_device.specs.Fronts.{Lock, DevicePass, front_in, setup_of, IsSoundIn}
@@ -37,11 +38,11 @@ calls_past (calls ∷ lanes) zero le = absurd (omega arith)
 calls_past (calls ∷ lanes) (suc n) le = calls_past lanes n (omega arith)
 
 -- a lane with no calls makes no entries and no objects
-goes_none : (serial : ℕ) (others own : List Object) (first : ℕ) (calls : List BoundCall) (es : List Entry) → calls ≡ []
-    → Goes serial (lane_at (record { others = others; first = first; own = [] }) calls 0) es (lane_at (record { others = others; first = first; own = own }) calls (length calls)) → (es ≡ []) × (own ≡ [])
-goes_none serial others own first [] [] none goes = (refl, sym (ap (λ (w : LaneState). w.sight.own) goes))
-goes_none serial others own first [] (e ∷ es) none goes = absurd (cc (goes.0))
-goes_none serial others own first (c ∷ cs) es none goes = absurd (cc (none))
+goes_none : (setup : Setup) (others own : List Object) (first : ℕ) (calls : List BoundCall) (es : List Entry) → calls ≡ []
+    → Goes setup (lane_at (record { others = others; first = first; own = [] }) calls 0) es (lane_at (record { others = others; first = first; own = own }) calls (length calls)) → (es ≡ []) × (own ≡ [])
+goes_none setup others own first [] [] none goes = (refl, sym (ap (λ (w : LaneState). w.sight.own) goes))
+goes_none setup others own first [] (e ∷ es) none goes = absurd (cc (goes.0))
+goes_none setup others own first (c ∷ cs) es none goes = absurd (cc (none))
 
 -- at the end of its calls a lane has settled
 at_end : (sight : Sight) (calls : List BoundCall) → (settle (lane_at sight calls (length calls))).sight.own ≡ sight.own
@@ -50,13 +51,13 @@ at_end sight calls = ap (λ (l : List BoundCall). (settled sight l).sight.own) (
 module _ (lock : Lock) (others : List Object) (front part : List Entry) (empty : (opened_with lock).history ≡ []) where
   -- what a pass of a number that has no lane made
   idle : (n : ℕ) (lanes : List (List BoundCall)) (own : List Object) (p b q : DevicePass) → p.number ≡ n → calls_of lanes n ≡ [] → front_in lock p ≡ front → IsSoundIn lock p
-      → PassMoves (setup_of lock).serial lock (lane_at (sight_at others lanes p.number) (calls_of lanes p.number) 0) (lane_at (sight_with others lanes p.number own) (calls_of lanes p.number) (length (calls_of lanes p.number))) p b
+      → PassMoves (setup_of lock) lock (lane_at (sight_at others lanes p.number) (calls_of lanes p.number) 0) (lane_at (sight_with others lanes p.number own) (calls_of lanes p.number) (length (calls_of lanes p.number))) p b
       → IsSamePass b q → IsSoundIn lock q → front_in lock q ≡ front ++ part → (entries_of_caller n part ≡ []) × (own ≡ [])
   idle n lanes own p b q is none at sound m same sound_after at_after =
       let w : LaneState = lane_at (sight_at others lanes p.number) (calls_of lanes p.number) 0 in
       let v : LaneState = lane_at (sight_with others lanes p.number own) (calls_of lanes p.number) (length (calls_of lanes p.number)) in
       let es = gives_one lock others front part empty n w v p b q is at sound m same sound_after at_after in
-      let still = goes_none (setup_of lock).serial others own (first_of (length others) lanes p.number) (calls_of lanes p.number) m.entries (ap (calls_of lanes) is ∙ none) m.goes in
+      let still = goes_none (setup_of lock) others own (first_of (length others) lanes p.number) (calls_of lanes p.number) m.entries (ap (calls_of lanes) is ∙ none) m.goes in
       (es ∙ still.0, still.1)
 
   few_at : (n k : ℕ) (lanes : List (List BoundCall)) (ps qs : List DevicePass) (bs : List (DevicePass × List Object)) → k < length ps → calls_of lanes (n + k) ≡ []
@@ -102,7 +103,7 @@ module _ (lock : Lock) (others : List Object) (front part : List Entry) (empty :
       let v : LaneState = lane_at (sight_with others lanes p.number b.1) (calls_of lanes p.number) (length (calls_of lanes p.number)) in
       let es = gives_one lock others front part empty n w v p b.0 q at.0 at.2 at.3 m met.1 met.2 met.3 in
       let start : ℕ → List BoundCall → LaneState = λ f cs. record { sight = record { others = others; first = f; own = [] }; left = cs } in
-      let end = goes_after (setup_of lock).serial w v m.entries m.goes in
+      let end = goes_after (setup_of lock) w v m.entries m.goes in
       let own : (settle (after_all next_event (after_ (setup_of lock)) (start first calls) (entries_of_caller n part))).sight.own ≡ b.1 =
       ap (λ (l : List Entry). (settle (after_all next_event (after_ (setup_of lock)) (start first calls) l)).sight.own) es
       ∙ (ap (λ (f : ℕ). (settle (after_all next_event (after_ (setup_of lock)) (start f calls) m.entries)).sight.own) slot

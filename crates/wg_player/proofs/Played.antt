@@ -32,7 +32,7 @@ module _ (lock : Lock) (others : List Object) (front part : List Entry) (empty :
 
   -- the part's entries of one pass are those of its lane
   pub gives_one : (n : ℕ) (w v : LaneState) (p b q : DevicePass) → p.number ≡ n → front_in lock p ≡ front → IsSoundIn lock p
-      → (m : PassMoves (setup_of lock).serial lock w v p b)
+      → (m : PassMoves (setup_of lock) lock w v p b)
       → IsSamePass b q → IsSoundIn lock q → front_in lock q ≡ front ++ part → entries_of_caller n part ≡ m.entries
   gives_one n w v p b q is at sound m same sound_after at_after =
       part_of n front part (own_of p) (own_of q) m.entries (mine p n front is at sound) (mine q n (front ++ part) (same.0 ∙ (m.number ∙ is)) at_after sound_after) (same.2 ∙ m.grown)
@@ -54,7 +54,7 @@ module _ (lock : Lock) (others : List Object) (front part : List Entry) (empty :
       let w : LaneState = lane_at (sight_at others lanes p.number) (calls_of lanes p.number) 0 in
       let v : LaneState = lane_at (sight_with others lanes p.number b.1) (calls_of lanes p.number) (length (calls_of lanes p.number)) in
       let es = gives_one n w v p b.0 q at.0 at.2 at.3 m met.1 met.2 met.3 in
-      let gives = goes_gives (setup_of lock).serial w v m.entries m.goes (ends (sight_with others lanes p.number b.1) (calls_of lanes p.number)) in
+      let gives = goes_gives (setup_of lock) w v m.entries m.goes (ends (sight_with others lanes p.number b.1) (calls_of lanes p.number)) in
       let here : LaneState = record { sight = record { others = others; first = first; own = [] }; left = calls } in (
         subst (λ (l : List Entry). GivesEvents next_event (after_ (setup_of lock)) here l) (sym es)
             (subst (λ (f : ℕ). GivesEvents next_event (after_ (setup_of lock)) (record { sight = record { others = others; first = f; own = [] }; left = calls }) m.entries) (sym slot)

@@ -65,14 +65,14 @@ module _ {G : Type 0} (device : Device) (lanes : List (List BoundCall)) (others 
       ∙ ap (λ (f : ℕ). record { others = others; first = f; own = c.seen.own.items }) slot
 
   ran_one : (p : DevicePass) (b c : LaneRun G) → BodyIsSeated device lanes others p b → HasRun b c → c.through ≡ true
-      → PassMoves (setup_of device.lock).serial device.lock (lane_at (sight_at others lanes p.number) (calls_of lanes p.number) 0) (lane_at (sight_with others lanes p.number c.seen.own.items) (calls_of lanes p.number) (length (calls_of lanes p.number))) p c.pass
+      → PassMoves (setup_of device.lock) device.lock (lane_at (sight_at others lanes p.number) (calls_of lanes p.number) 0) (lane_at (sight_with others lanes p.number c.seen.own.items) (calls_of lanes p.number) (length (calls_of lanes p.number))) p c.pass
   ran_one p b c s r through =
       let m = r.3 through in
-      subst (λ (x : Sight). PassMoves (setup_of device.lock).serial device.lock (lane_at (sight_at others lanes p.number) (calls_of lanes p.number) 0) (lane_at x (calls_of lanes p.number) (length (calls_of lanes p.number))) p c.pass) (sees_after p b c s r)
-      (subst (λ (x : Sight). PassMoves (setup_of device.lock).serial device.lock (lane_at x (calls_of lanes p.number) 0) (lane_at (sight_of c.seen) (calls_of lanes p.number) (length (calls_of lanes p.number))) p c.pass) s.3
-      (subst (λ (cs : List BoundCall). PassMoves (setup_of device.lock).serial device.lock (lane_at (sight_of b.seen) cs 0) (lane_at (sight_of c.seen) cs (length cs)) p c.pass) s.2
-      (subst (λ (d : Device). PassMoves (setup_of d.lock).serial d.lock (lane_at (sight_of b.seen) b.calls.now 0) (lane_at (sight_of c.seen) b.calls.now (length b.calls.now)) p c.pass) s.1
-      (subst (λ (q : DevicePass). PassMoves (setup_of b.device.now.lock).serial b.device.now.lock (lane_at (sight_of b.seen) b.calls.now 0) (lane_at (sight_of c.seen) b.calls.now (length b.calls.now)) q c.pass) s.0 m))))
+      subst (λ (x : Sight). PassMoves (setup_of device.lock) device.lock (lane_at (sight_at others lanes p.number) (calls_of lanes p.number) 0) (lane_at x (calls_of lanes p.number) (length (calls_of lanes p.number))) p c.pass) (sees_after p b c s r)
+      (subst (λ (x : Sight). PassMoves (setup_of device.lock) device.lock (lane_at x (calls_of lanes p.number) 0) (lane_at (sight_of c.seen) (calls_of lanes p.number) (length (calls_of lanes p.number))) p c.pass) s.3
+      (subst (λ (cs : List BoundCall). PassMoves (setup_of device.lock) device.lock (lane_at (sight_of b.seen) cs 0) (lane_at (sight_of c.seen) cs (length cs)) p c.pass) s.2
+      (subst (λ (d : Device). PassMoves (setup_of d.lock) d.lock (lane_at (sight_of b.seen) b.calls.now 0) (lane_at (sight_of c.seen) b.calls.now (length b.calls.now)) p c.pass) s.1
+      (subst (λ (q : DevicePass). PassMoves (setup_of b.device.now.lock) b.device.now.lock (lane_at (sight_of b.seen) b.calls.now 0) (lane_at (sight_of c.seen) b.calls.now (length b.calls.now)) q c.pass) s.0 m))))
 
   have_run : (ps : List DevicePass) (bs cs : List (LaneRun G)) → BodiesAreSeated device lanes others ps bs → Paired HasRun bs cs → All (λ c. c.through ≡ true) cs
       → HaveRun device.lock lanes others ps (map (λ c. (c.pass, c.seen.own.items)) cs)

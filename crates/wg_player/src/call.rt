@@ -180,7 +180,7 @@ fn play_request(
     let handle = send_request(rt, device, pass, seen, request)?;
     match made {
         Some(_) => {
-            seen.add_handle(alloc, handle)?;
+            seen.add_handle(alloc, handle, device.limits())?;
             Ok(())
         }
         None => Ok(()),

@@ -1,9 +1,9 @@
 //! Bundles that are executed: the rules of executeBundles, and what it touches.
-ghost use Rattle.std.specs.Prelude.{◌≡◌, ◌++◌, true, map, OnOk};
+ghost use Rattle.std.specs.Prelude.{◌≡◌, ◌++◌, true, map, IfOk, OnOk};
 ghost use Rattle.std.specs.Option.{option_map_or};
 ghost use Rattle.wg_model.specs.Rules.{first_unmet};
 ghost use Rattle.wg_model.specs.Bundles.{known_bundle, bundle_touch, known_touches, executed_touches};
-ghost use Rattle.wg_model.specs.Render.{bundle_fits, bundle_spares, all_bundles, execute_rules};
+ghost use Rattle.wg_model.specs.Render.{bundle_fits, bundle_spares, all_bundles, execute_rules, known_draws, executed_draws};
 
 use crate::pipelines::{same_target, same_targets};
 use wg_access::bundle_touch;
@@ -114,4 +114,28 @@ pub fn push_bundles(touches: &mut Touches, bundles: &[Handle]) -> Result<(), NoM
         push_bundle(touches, bundle)?;
     }
     Ok(())
+}
+
+/// How often a bundle draws, if it is one.
+fn bundle_draws(bundle: &Handle) -> u64
+    ensures { result ≡ known_draws (known_bundle bundle.now) }
+{
+    match known_bundle(bundle) {
+        Some(known) => known.draws,
+        None => 0,
+    }
+}
+
+/// How often bundles draw that are executed. More than fit a number are answered as want of memory.
+pub fn executed_draws(bundles: &[Handle]) -> Result<u64, NoMemory>
+    ensures { IfOk result (λ draws. draws ≡ executed_draws bundles.now) }
+{
+    let mut draws: u64 = 0;
+    for bundle in bundles {
+        match draws.checked_add(bundle_draws(bundle)) {
+            Some(more) => draws = more,
+            None => return Err(NoMemory),
+        }
+    }
+    Ok(draws)
 }

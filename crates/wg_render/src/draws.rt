@@ -2,9 +2,9 @@
 ghost use Rattle.std.specs.Prelude.{◌≡◌, ◌+◌, ◌%◌, ◌==◌, None, nat_le, is_some, slice_index_or};
 ghost use Rattle.wg_types.specs.Vertex.{index_bytes};
 ghost use Rattle.wg_model.specs.Rules.{first_unmet};
-ghost use Rattle.wg_model.specs.Render.{vertex_rules, index_rules, are_set, indices_fit};
+ghost use Rattle.wg_model.specs.Render.{vertex_rules, no_vertex_rules, given_vertex_rules, index_rules, are_set, indices_fit};
 
-use wg_formats::buffer_of;
+use wg_formats::{buffer_of, size_or_rest};
 use wg_rules::{
     INDEX_BUFFER_HAS_INDEX, INDEX_OFFSET_IS_ALIGNED, INDEX_RANGE_FITS_BUFFER,
     VERTEX_BUFFER_HAS_VERTEX, VERTEX_OFFSET_IS_ALIGNED, VERTEX_RANGE_FITS_BUFFER,
@@ -30,7 +30,7 @@ fn range_fits(offset: u64, size: u64, bytes: u64) -> bool
 }
 
 /// The first unmet rule of setVertexBuffer (WebGPU, "setVertexBuffer").
-pub fn check_vertex(slot: u32, buffer: &Handle, offset: u64, size: u64) -> Option<u16>
+fn check_vertex(slot: u32, buffer: &Handle, offset: u64, size: u64) -> Option<u16>
     ensures { result ≡ first_unmet (vertex_rules slot buffer.now offset size) }
 {
     let info = buffer_of(buffer);
@@ -47,6 +47,37 @@ pub fn check_vertex(slot: u32, buffer: &Handle, offset: u64, size: u64) -> Optio
         return Some(VERTEX_RANGE_FITS_BUFFER);
     }
     None
+}
+
+/// The first unmet rule of setVertexBuffer with null (WebGPU, "setVertexBuffer").
+fn check_no_vertex(slot: u32, offset: u64, size: Option<u64>) -> Option<u16>
+    ensures { result ≡ first_unmet (no_vertex_rules slot offset size) }
+{
+    if slot >= MOST_SLOTS {
+        return Some(VERTEX_SLOT_IS_WITHIN_LIMIT);
+    }
+    if offset % 4 != 0 {
+        return Some(VERTEX_OFFSET_IS_ALIGNED);
+    }
+    if offset != 0 || size.unwrap_or(0) != 0 {
+        return Some(VERTEX_RANGE_FITS_BUFFER);
+    }
+    None
+}
+
+/// The first unmet rule of what is set as a vertex buffer, or of null (WebGPU, "setVertexBuffer").
+pub fn check_given_vertex(
+    slot: u32,
+    buffer: &Option<Handle>,
+    offset: u64,
+    size: Option<u64>,
+) -> Option<u16>
+    ensures { result ≡ first_unmet (given_vertex_rules slot buffer.now offset size) }
+{
+    match buffer {
+        Some(buffer) => check_vertex(slot, buffer, offset, size_or_rest(buffer, offset, size)),
+        None => check_no_vertex(slot, offset, size),
+    }
 }
 
 /// Whether an offset is a multiple of the bytes of an index.

@@ -6,8 +6,9 @@ use wg_formats::size_or_rest;
 use wg_types::commands::Command;
 use wg_types::vertex::IndexFormat;
 
-/// The slot and the size of the range that a command sets as a vertex buffer, if it sets one.
-pub fn vertex_given(command: &Command) -> Option<(u32, u64)>
+/// The slot for which a command sets a range as a vertex buffer, with the size of that, or with none where it
+/// unsets what is set there.
+pub fn vertex_given(command: &Command) -> Option<(u32, Option<u64>)>
     ensures { result ≡ vertex_given command.now }
 {
     match command {
@@ -16,7 +17,10 @@ pub fn vertex_given(command: &Command) -> Option<(u32, u64)>
             buffer,
             offset,
             size,
-        } => Some((*slot, size_or_rest(buffer, *offset, *size))),
+        } => match buffer {
+            Some(buffer) => Some((*slot, Some(size_or_rest(buffer, *offset, *size)))),
+            None => Some((*slot, None)),
+        },
         _ => None,
     }
 }

@@ -11,6 +11,7 @@ mod queries;
 mod state;
 mod targets;
 mod touches;
+mod viewports;
 mod views;
 
 pub use attachments::check_begin;

@@ -11,12 +11,13 @@ ghost use Rattle.wg_compute.specs.After.{slots_after, emptied};
 ghost use Rattle.wg_render.specs.After.{render_after};
 
 use crate::bundles::check_bundles;
-use crate::draws::{MOST_SLOTS, are_set, check_index, check_vertex, indices_fit};
+use crate::draws::{MOST_SLOTS, are_set, check_given_vertex, check_index, indices_fit};
 use crate::given::{index_given, vertex_given};
 use crate::pipelines::{buffers_wanted, check_pipeline};
 use crate::queries::{check_pass_end, count_given, set_of_pass};
-use crate::targets::{targets_of, targets_touches};
+use crate::targets::{extent_of, targets_of, targets_touches};
 use crate::touches::{DRAW_BYTES, DRAW_INDEXED_BYTES, command_touches, query_written};
+use crate::viewports::{check_draws, check_scissor, check_viewport, draws_after};
 use crate::views::RenderBegin;
 use std::alloc::Global;
 use std::marker::Model;
@@ -31,21 +32,26 @@ use wg_rules::{
 use wg_types::NoMemory;
 use wg_types::commands::Command;
 use wg_types::handles::Handle;
+use wg_types::limits::Limits;
 use wg_types::render::TargetInfo;
 use wg_types::steps::Touch;
 use wg_types::vertex::IndexFormat;
 
 /// What is set in a render pass or in a bundle: what is set in any pass, the sizes of the ranges that are
-/// set as vertex buffers by slot, and the index buffer; to what is drawn, the number of the pass's query set
-/// and how many queries that has, if there is one, and the queries of it; and what is touched so far.
+/// set as vertex buffers by slot, and the index buffer; to what is drawn, and how wide and high that is; the
+/// number of the pass's query set and how many queries that has, if there is one, and the queries of it; how
+/// often is drawn so far, and may be; and what is touched so far.
 #[derive(Drop)]
 pub struct RenderState {
     set: Settings,
     ranges: [Option<u64>; 8],
     index: Option<(IndexFormat, u64)>,
     targets: TargetInfo,
+    extent: (u32, u32),
     queries: Option<(u64, u32)>,
     occlusion: Occlusion,
+    draws: u64,
+    most: Option<u64>,
     touches: Vec<Touch>,
 }
 
@@ -55,7 +61,7 @@ impl Model for RenderState {
 
     ghost Value = { RenderSet };
 
-    ghost view = { λ s. record { set = s.set; ranges = s.ranges; index = s.index; targets = s.targets; queries = s.queries; occlusion = s.occlusion; touches = s.touches.items } };
+    ghost view = { λ s. record { set = s.set; ranges = s.ranges; index = s.index; targets = s.targets; extent = s.extent; queries = s.queries; occlusion = s.occlusion; draws = s.draws; most = s.most; touches = s.touches.items } };
 
     ghost invariant = { λ s. length s.ranges ≡ 8 };
 }
@@ -75,8 +81,11 @@ impl RenderState {
             ranges: [None; 8],
             index: None,
             targets,
+            extent: extent_of(begin),
             queries: set_of_pass(&begin.queries),
             occlusion: Occlusion::new(alloc),
+            draws: 0,
+            most: begin.max_draws,
             touches: touches.into_vec(),
         })
     }
@@ -92,10 +101,20 @@ impl RenderState {
             ranges: [None; 8],
             index: None,
             targets,
+            extent: (0, 0),
             queries: None,
             occlusion: Occlusion::new(alloc),
+            draws: 0,
+            most: None,
             touches: Vec::new(alloc),
         })
+    }
+
+    /// How often is drawn so far.
+    pub fn draws(&self) -> u64
+        ensures { result ≡ self.now.draws }
+    {
+        self.draws
     }
 
     /// How many debug groups are open.
@@ -228,10 +247,10 @@ impl RenderState {
         }
     }
 
-    /// The first unmet rule of what draws, sets a vertex buffer or the index buffer, executes bundles, or
-    /// begins or ends a query.
-    fn drawing_rule(&self, command: &Command) -> Option<u16>
-        ensures { result ≡ first_unmet (drawing_rules self.now command.now) }
+    /// The first unmet rule of what draws, sets a vertex buffer or the index buffer, the viewport or the
+    /// scissor rectangle, executes bundles, or begins or ends a query, by the limits of the device.
+    fn drawing_rule(&self, limits: &Limits, command: &Command) -> Option<u16>
+        ensures { result ≡ first_unmet (drawing_rules limits.now self.now command.now) }
     {
         match command {
             Command::SetVertexBuffer {
@@ -239,7 +258,7 @@ impl RenderState {
                 buffer,
                 offset,
                 size,
-            } => check_vertex(*slot, buffer, *offset, size_or_rest(buffer, *offset, *size)),
+            } => check_given_vertex(*slot, buffer, *offset, *size),
             Command::SetIndexBuffer {
                 buffer,
                 format,
@@ -251,6 +270,13 @@ impl RenderState {
                 *offset,
                 size_or_rest(buffer, *offset, *size),
             ),
+            Command::SetViewport { viewport } => check_viewport(limits, viewport),
+            Command::SetScissorRect {
+                x,
+                y,
+                width,
+                height,
+            } => check_scissor(self.extent, *x, *y, *width, *height),
             Command::Draw {
                 vertices,
                 instances,
@@ -273,10 +299,10 @@ impl RenderState {
     }
 
     /// The number of the first unmet rule of a command, but for those on the objects that it names
-    /// (WebGPU, "GPURenderCommandsMixin"); none where the command may be taken.
+    /// (WebGPU, "GPURenderCommandsMixin"), on a device with these limits; none where the command may be taken.
     #[tactic(auto, using(crate::proofs::Rules::rules_parted))]
-    pub fn rule(&self, command: &Command) -> Option<u16>
-        ensures { result ≡ first_unmet (render_rules self.now command.now) }
+    pub fn rule(&self, limits: &Limits, command: &Command) -> Option<u16>
+        ensures { result ≡ first_unmet (render_rules limits.now self.now command.now) }
     {
         if let Some(rule) = check_group(self.set.depth(), command) {
             return Some(rule);
@@ -287,23 +313,26 @@ impl RenderState {
         if let Some(rule) = check_pass_end(self.occlusion.is_active(), command) {
             return Some(rule);
         }
+        if let Some(rule) = check_draws(self.most, self.draws, command) {
+            return Some(rule);
+        }
         if let Some(rule) = check_pipeline(&self.targets, pipeline_given(command)) {
             return Some(rule);
         }
         if let Some(rule) = check_given(command) {
             return Some(rule);
         }
-        self.drawing_rule(command)
+        self.drawing_rule(limits, command)
     }
 
-    /// Sets the range of a vertex buffer. There is no slot past the last, so nothing is set there.
+    /// Sets the range of a vertex buffer, or unsets it. There is no slot past the last, so nothing is set there.
     #[tactic(auto, using(wg_compute::proofs::Slots::slots_unset, wg_compute::proofs::Slots::slot_set, wg_compute::proofs::Slots::slots_past))]
-    fn set_range(&mut self, given: Option<(u32, u64)>)
+    fn set_range(&mut self, given: Option<(u32, Option<u64>)>)
         ensures { self.new ≡ record self.old { ranges = slots_after given 0 self.old.ranges } }
     {
         if let Some((slot, size)) = given {
             if slot < MOST_SLOTS {
-                self.ranges[slot as usize] = Some(size);
+                self.ranges[slot as usize] = size;
             }
         }
     }
@@ -332,6 +361,7 @@ impl RenderState {
         ensures set { OnOk result (self.new ≡ record (render_after self.old command.now) { occlusion = self.old.occlusion }) }
         ensures unchanged { OnErr result (self.new ≡ self.old) }
     {
+        let draws = draws_after(self.draws, command)?;
         let more = command_touches(alloc, self.queries, command)?;
         let more = more.as_slice();
         self.touches.reserve(more.len())?;
@@ -341,6 +371,7 @@ impl RenderState {
         self.set_range(vertex_given(command));
         self.set_index(index_given(command));
         self.unset(unsets(command));
+        self.draws = draws;
         Ok(())
     }
 
@@ -362,13 +393,18 @@ impl RenderState {
 
     /// Takes a command no rule of which is unmet. Ranges that end past every number, which such commands don't
     /// have, are answered as want of memory.
-    #[tactic(auto, using(crate::proofs::Grown::after_end, crate::proofs::Grown::after_query_ended))]
+    #[tactic(auto, using(crate::proofs::Grown::after_end, crate::proofs::Grown::after_viewport, crate::proofs::Grown::after_scissor, crate::proofs::Grown::after_blend_constant, crate::proofs::Grown::after_stencil_reference, crate::proofs::Grown::after_marker, crate::proofs::Grown::after_query_ended))]
     pub fn take(&mut self, alloc: Global, command: &Command) -> Result<(), NoMemory>
         ensures set { OnOk result (self.new ≡ render_after self.old command.now) }
         ensures unchanged { OnErr result (self.new ≡ self.old) }
     {
         match command {
-            Command::End => return Ok(()),
+            Command::End
+            | Command::SetViewport { .. }
+            | Command::SetScissorRect { .. }
+            | Command::SetBlendConstant
+            | Command::SetStencilReference
+            | Command::InsertDebugMarker => return Ok(()),
             Command::BeginOcclusionQuery { index } => return self.add_query(*index),
             Command::EndOcclusionQuery => {
                 self.occlusion.note_ended();

@@ -2,11 +2,12 @@
 ghost use Rattle.std.specs.Prelude.{◌≡◌, ◌++◌, false, map, option_map, IfOk, OnOk};
 ghost use Rattle.std.specs.List.{flat_map};
 ghost use Rattle.std.specs.Option.{option_map_or};
-ghost use Rattle.wg_model.specs.Attachments.{color_view, depth_view, samples_of, targets_of, handle_cells, sliced, attach_kind, attached, resolve_touches, color_touches, aspect_how, depth_how, cells_aspect, depth_touch, depth_touches, targets_touches};
+ghost use Rattle.wg_model.specs.Attachments.{drawn_views, color_view, depth_view, view_width, view_height, extent_of, samples_of, targets_of, handle_cells, sliced, attach_kind, attached, resolve_touches, color_touches, aspect_how, depth_how, cells_aspect, depth_touch, depth_touches, targets_touches};
 ghost use Rattle.wg_render.specs.Attached.{drawn_in};
 
 use crate::views::{ColorTarget, DepthTarget, RenderBegin, attached_view, view_of};
 use std::alloc::Global;
+use wg_formats::extent;
 use wg_subres::cells_of_view;
 use wg_types::NoMemory;
 use wg_types::formats::Format;
@@ -15,6 +16,7 @@ use wg_types::items::Items;
 use wg_types::parts::{AccessKind, Aspect, Cells};
 use wg_types::render::{LoadOp, StoreOp, TargetInfo};
 use wg_types::steps::{Touch, Touches};
+use wg_types::textures::ViewInfo;
 use wg_types::usages::Usages;
 
 /// The format of a color attachment, if there is one.
@@ -63,6 +65,36 @@ fn samples_of(colors: &[Option<ColorTarget>], depth: &Option<DepthTarget>) -> u3
         Some(target) => view_of(&target.view).texture_info.samples,
         None => 1,
     }
+}
+
+/// How wide and how high the mip level of a view is.
+fn view_extent(view: &ViewInfo) -> (u32, u32)
+    ensures { result ≡ (view_width view.now, view_height view.now) }
+{
+    let size = extent(&view.texture_info, view.base_mip);
+    (size[0], size[1])
+}
+
+/// How wide and how high the first view is to which a pass draws, in texels.
+fn drawn_extent(colors: &[Option<ColorTarget>], depth: &Option<DepthTarget>) -> (u32, u32)
+    ensures { result ≡ extent_of (drawn_in colors.now depth.now) }
+{
+    for color in colors {
+        let Some(target) = color else { continue };
+        return view_extent(&view_of(&target.view));
+    }
+    match depth {
+        Some(target) => view_extent(&view_of(&target.view)),
+        None => (0, 0),
+    }
+}
+
+/// How wide and how high that is to which a render pass draws, in texels. Where its views differ, which rule
+/// 305 refuses, it is the first of them.
+pub fn extent_of(begin: &RenderBegin) -> (u32, u32)
+    ensures { result ≡ extent_of (drawn_views begin.now) }
+{
+    drawn_extent(begin.colors.as_slice(), &begin.depth)
 }
 
 /// Whether depth is only read.

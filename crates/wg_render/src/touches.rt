@@ -2,15 +2,15 @@
 ghost use Rattle.std.specs.Prelude.{◌≡◌, ◌++◌, Some, IfOk, OnOk};
 ghost use Rattle.wg_model.specs.Commands.{size_or_rest};
 ghost use Rattle.wg_model.specs.Queries.{occlusion_call, query_written, query_touches};
-ghost use Rattle.wg_model.specs.Render.{bound_group_touches, input_touch, input_touches, command_touches};
+ghost use Rattle.wg_model.specs.Render.{bound_group_touches, input_touch, vertex_touches, input_touches, command_touches};
 
 use crate::bundles::push_bundles;
 use std::alloc::Global;
-use wg_compute::{GroupGiven, group_given, indirect_touch};
+use wg_compute::{GroupGiven, bound, group_given, indirect_touch};
 use wg_formats::size_or_rest;
 use wg_layouts::{bound_touches, known_group};
 use wg_types::NoMemory;
-use wg_types::commands::{BoundGroup, Command};
+use wg_types::commands::Command;
 use wg_types::handles::Handle;
 use wg_types::items::Items;
 use wg_types::parts::{AccessKind, Cells};
@@ -23,19 +23,20 @@ pub const DRAW_BYTES: u64 = 16;
 /// How many bytes an indirect draw of indexes reads.
 pub const DRAW_INDEXED_BYTES: u64 = 20;
 
-/// What a group touches that is set: as much as where a pipeline runs that has the group's own layout.
+/// What a group touches that is set: as much as where a pipeline runs that has the group's own layout. Null
+/// touches nothing.
 #[tactic(auto, using(crate::proofs::Groups::own_layout))]
 fn group_touches(alloc: Global, given: &GroupGiven) -> Result<Touches, NoMemory>
     ensures { IfOk result (λ touches. touches ≡ bound_group_touches (Some given.now)) }
 {
-    let Some(known) = known_group(given.group) else {
+    let Some(group) = given.group else {
+        return Ok(Items::new(alloc));
+    };
+    let Some(known) = known_group(group) else {
         return Ok(Items::new(alloc));
     };
     let layouts = [known.layout_info.share()?];
-    let groups = [Some(BoundGroup {
-        group: given.group.share()?,
-        offsets: given.offsets.share()?,
-    })];
+    let groups = [bound(given)?];
     bound_touches(alloc, &layouts, &groups)
 }
 
@@ -44,6 +45,21 @@ fn input_touch(buffer: &Handle, offset: u64, size: Option<u64>) -> Result<Touch,
     ensures { IfOk result (λ touch. touch ≡ input_touch buffer.now offset (size_or_rest buffer.now offset size)) }
 {
     indirect_touch(buffer, offset, size_or_rest(buffer, offset, size))
+}
+
+/// Adds the range of a vertex buffer that is set, if one is.
+fn push_vertex(
+    touches: &mut Touches,
+    buffer: &Option<Handle>,
+    offset: u64,
+    size: Option<u64>,
+) -> Result<(), NoMemory>
+    ensures { OnOk result (touches.new ≡ touches.old ++ vertex_touches buffer.now offset size) }
+{
+    if let Some(buffer) = buffer {
+        touches.push(input_touch(buffer, offset, size)?)?;
+    }
+    Ok(())
 }
 
 /// Adds what a command reads of vertex, index and indirect buffers, and what bundles touch that it
@@ -57,8 +73,8 @@ fn push_inputs(touches: &mut Touches, command: &Command) -> Result<(), NoMemory>
             offset,
             size,
             ..
-        }
-        | Command::SetIndexBuffer {
+        } => return push_vertex(touches, buffer, *offset, *size),
+        Command::SetIndexBuffer {
             buffer,
             offset,
             size,

@@ -313,3 +313,13 @@ pub const OCCLUSION_QUERY_IS_ACTIVE: u16 = 364;
 pub const BUNDLE_TARGETS_ARE_OF_PASS: u16 = 370;
 /// Of executeBundles.
 pub const BUNDLES_SPARE_READ_ONLY: u16 = 371;
+/// Of setViewport.
+pub const VIEWPORT_SIZE_IS_WITHIN_LIMIT: u16 = 400;
+/// Of setViewport.
+pub const VIEWPORT_IS_WITHIN_BOUNDS: u16 = 401;
+/// Of setViewport.
+pub const VIEWPORT_DEPTHS_ARE_IN_ORDER: u16 = 402;
+/// Of setScissorRect.
+pub const SCISSOR_FITS_ATTACHMENTS: u16 = 403;
+/// Of end, on a render pass.
+pub const DRAWS_ARE_WITHIN_MAXIMUM: u16 = 404;

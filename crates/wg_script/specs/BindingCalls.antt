@@ -6,7 +6,7 @@ use Rattle.serde_json.specs.Find.{as_str}
 use Rattle.wg_types.specs.declared.bindings.SamplerKind.TheVariants.{Filtering}
 use Rattle.wg_types.specs.declared.requests.RequestOf.TheVariants.{CreateSampler, CreateBindGroupLayout, CreatePipelineLayout, CreateBindGroup, CreateComputePipeline, GetBindGroupLayout}
 use Rattle.wg_script.specs.Values.{whole_at, most_short, name_at}
-use Rattle.wg_script.specs.Lists.{list_at, list_or_empty, names_at}
+use Rattle.wg_script.specs.Lists.{list_at, list_or_empty, null_or, name_item}
 use Rattle.wg_script.specs.Words.{word_or}
 use Rattle.wg_script.specs.BindingWords.{sampler_words}
 use Rattle.wg_script.specs.BindingEntries.{layout_entry_of, iface_entry_of, group_entry_of}
@@ -35,10 +35,10 @@ create_group_layout_keys = gives (λ entries made. making (CreateBindGroupLayout
 unfoldable pub create_group_layout_of : Data → Result Call ℕ
 create_group_layout_of d = read_by create_group_layout_keys d
 
--- createPipelineLayout
+-- createPipelineLayout: a layout that is null is left out
 abbrev pub create_pipeline_layout_keys : Reader Call
 create_pipeline_layout_keys = gives (λ layouts made. making (CreatePipelineLayout layouts) made)
-    ▹ need (codes "layouts") names_at
+    ▹ need (codes "layouts") (list_at (null_or name_item))
     ▹ all_of made_keys
 
 -- the reader of a createPipelineLayout

@@ -12,7 +12,7 @@ use Rattle.wg_script.specs.Labels.{label_if, made_keys}
 use Rattle.wg_script.specs.TextureCalls.{create_texture_of, create_view_of, write_texture_of, copy_buffer_to_texture_of, copy_texture_to_buffer_of, copy_texture_to_texture_of}
 use Rattle.wg_script.specs.BindingCalls.{create_sampler_of, create_group_layout_of, create_pipeline_layout_of, create_group_of, create_compute_of, get_group_layout_of}
 use Rattle.wg_script.specs.PassCalls.{bare_of, begin_compute_pass_of, end_of, set_pipeline_of, set_bind_group_of, dispatch_of, dispatch_indirect_of}
-use Rattle.wg_script.specs.RenderCalls.{create_render_of, begin_render_pass_of, set_vertex_buffer_of, set_index_buffer_of, draw_of, draw_indexed_of, draw_indirect_of, draw_indexed_indirect_of}
+use Rattle.wg_script.specs.RenderCalls.{create_render_of, begin_render_pass_of, set_vertex_buffer_of, set_index_buffer_of, set_viewport_of, set_scissor_rect_of, set_blend_constant_of, set_stencil_reference_of, draw_of, draw_indexed_of, draw_indirect_of, draw_indexed_indirect_of}
 use Rattle.wg_script.specs.QueryCalls.{create_queries_of, resolve_queries_of, begin_occlusion_of, end_occlusion_of}
 use Rattle.wg_script.specs.BundleCalls.{create_bundle_encoder_of, finish_bundle_of, execute_bundles_of}
 use Rattle.wg_script.specs.CanvasCalls.{create_canvas_of, configure_canvas_of, current_texture_of, present_of}
@@ -20,7 +20,7 @@ use Rattle.wg_types.specs.Words.{word_of}
 use Rattle.wg_types.specs.declared.words.Word.{Word}
 use Rattle.wg_types.specs.declared.words.Word.TheVariants as word
 use Rattle.wg_script.specs.CallOf.{Call}
-use Rattle.wg_types.specs.declared.commands.CommandOf.TheVariants.{CopyBufferToBuffer, ClearBuffer, PushDebugGroup, PopDebugGroup}
+use Rattle.wg_types.specs.declared.commands.CommandOf.TheVariants.{CopyBufferToBuffer, ClearBuffer, PushDebugGroup, PopDebugGroup, InsertDebugMarker}
 use Rattle.wg_trace.specs.declared.replies.Filter.{Filter}
 use Rattle.wg_trace.specs.declared.replies.Filter.TheVariants as filter
 use Rattle.wg_types.specs.declared.requests.RequestOf.{RequestOf}
@@ -166,6 +166,16 @@ push_debug_group_of d = read_by push_debug_group_keys d
 unfoldable pub pop_debug_group_of : Data → Result Call ℕ
 pop_debug_group_of d = bare_of PopDebugGroup d
 
+-- insertDebugMarker: the label of the marker is not looked at further
+abbrev pub insert_debug_marker_keys : Reader Call
+insert_debug_marker_keys = gives (λ on label. recording on InsertDebugMarker)
+    ▹ need (codes "on") name_at
+    ▹ may (codes "label") label_if
+
+-- the reader of an insertDebugMarker
+unfoldable pub insert_debug_marker_of : Data → Result Call ℕ
+insert_debug_marker_of d = read_by insert_debug_marker_keys d
+
 -- ---- which call
 
 -- a call by its keys
@@ -205,6 +215,7 @@ call_as word.ClearBuffer d = clear_buffer_of d
 call_as word.ResolveQuerySet d = resolve_queries_of d
 call_as word.PushDebugGroup d = push_debug_group_of d
 call_as word.PopDebugGroup d = pop_debug_group_of d
+call_as word.InsertDebugMarker d = insert_debug_marker_of d
 call_as word.BeginComputePass d = begin_compute_pass_of d
 call_as word.End d = end_of d
 call_as word.SetPipeline d = set_pipeline_of d
@@ -214,6 +225,10 @@ call_as word.DispatchIndirect d = dispatch_indirect_of d
 call_as word.BeginRenderPass d = begin_render_pass_of d
 call_as word.SetVertexBuffer d = set_vertex_buffer_of d
 call_as word.SetIndexBuffer d = set_index_buffer_of d
+call_as word.SetViewport d = set_viewport_of d
+call_as word.SetScissorRect d = set_scissor_rect_of d
+call_as word.SetBlendConstant d = set_blend_constant_of d
+call_as word.SetStencilReference d = set_stencil_reference_of d
 call_as word.Draw d = draw_of d
 call_as word.DrawIndexed d = draw_indexed_of d
 call_as word.DrawIndirect d = draw_indirect_of d

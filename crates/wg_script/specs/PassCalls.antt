@@ -6,7 +6,7 @@ use Rattle.wg_types.specs.declared.commands.CommandOf.TheVariants.{BeginComputeP
 use Rattle.wg_script.specs.declared.pass_calls.IndirectCall.{IndirectCall}
 use Rattle.wg_script.specs.Giving.{◌>>=◌}
 use Rattle.wg_script.specs.Values.{whole, whole_at, whole_or, most_whole, most_short, name_at}
-use Rattle.wg_script.specs.Lists.{list_or_empty}
+use Rattle.wg_script.specs.Lists.{list_or_empty, item_or_null, name_item}
 use Rattle.wg_script.specs.CallOf.{Call}
 use Rattle.wg_script.specs.Calling.{recording, beginning}
 use Rattle.wg_script.specs.Readers.{Reader, gives, need, may, all_of, ◌▹◌, read_by}
@@ -40,12 +40,12 @@ set_pipeline_keys = gives (λ on pipeline. recording on (SetPipeline pipeline))
 unfoldable pub set_pipeline_of : Data → Result Call ℕ
 set_pipeline_of d = read_by set_pipeline_keys d
 
--- setBindGroup: no dynamic offsets where the key is left out
+-- setBindGroup: a group that is null leaves nothing set, and no dynamic offsets are given where the key is left out
 abbrev pub set_bind_group_keys : Reader Call
 set_bind_group_keys = gives (λ on index group offsets. recording on (SetBindGroup index group offsets))
     ▹ need (codes "on") name_at
     ▹ need (codes "index") (whole_at most_short)
-    ▹ need (codes "group") name_at
+    ▹ need (codes "group") (item_or_null name_item)
     ▹ may (codes "offsets") (list_or_empty (whole most_short))
 
 -- the reader of a setBindGroup

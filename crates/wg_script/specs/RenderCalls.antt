@@ -1,17 +1,17 @@
 -- The calls on render pipelines, render passes and draws: for each its keys, and what each holds, in the order in which they
 -- are read.
-use Rattle.std.specs.Prelude.{ℕ, codes, Result, Ok}
+use Rattle.std.specs.Prelude.{ℕ, codes, false, Result, Ok}
 use Rattle.serde_json.specs.Data.{Data}
-use Rattle.wg_types.specs.declared.commands.CommandOf.TheVariants.{BeginRenderPass, SetVertexBuffer, SetIndexBuffer, Draw, DrawIndexed, DrawIndirect, DrawIndexedIndirect}
+use Rattle.wg_types.specs.declared.commands.CommandOf.TheVariants.{BeginRenderPass, SetVertexBuffer, SetIndexBuffer, SetViewport, SetScissorRect, SetBlendConstant, SetStencilReference, Draw, DrawIndexed, DrawIndirect, DrawIndexedIndirect}
 use Rattle.wg_types.specs.declared.requests.RequestOf.TheVariants.{CreateRenderPipeline}
 use Rattle.wg_script.specs.Giving.{◌>>=◌}
-use Rattle.wg_script.specs.Values.{whole_at, whole_or, whole_if, most_whole, most_short, name_at}
-use Rattle.wg_script.specs.Lists.{list_at, list_or_empty, null_or, item_if, name_item}
+use Rattle.wg_script.specs.Values.{whole_at, whole_or, whole_if, most_whole, most_short, flag_or, name_at}
+use Rattle.wg_script.specs.Lists.{list_at, list_or_empty, null_or, item_if, item_or_null, name_item}
 use Rattle.wg_script.specs.Words.{word_at}
 use Rattle.wg_script.specs.RenderWords.{index_format_words}
 use Rattle.wg_script.specs.BindingEntries.{staged_entry_of}
 use Rattle.wg_script.specs.BindingCalls.{layout_at}
-use Rattle.wg_script.specs.PassCalls.{indirect_of}
+use Rattle.wg_script.specs.PassCalls.{bare_of, indirect_of}
 use Rattle.wg_script.specs.RenderEntries.{vertex_buffer_of, format_item, depth_state_of, color_target_of, depth_target_of}
 use Rattle.wg_script.specs.CallOf.{Call}
 use Rattle.wg_script.specs.Calling.{recording, beginning, making}
@@ -37,13 +37,15 @@ create_render_of d = read_by create_render_keys d
 
 -- ---- render passes
 
--- beginRenderPass: a color attachment that is null is left out, and the name that the call makes is that of the pass
+-- beginRenderPass: a color attachment that is null is left out, the pass may draw as often as it will where no count is given,
+-- and the name that the call makes is that of the pass
 abbrev pub begin_render_pass_keys : Reader Call
-begin_render_pass_keys = gives (λ on colors depth queries made. beginning on (BeginRenderPass (record { colors = colors; depth = depth; queries = queries })) made)
+begin_render_pass_keys = gives (λ on colors depth queries max_draws made. beginning on (BeginRenderPass (record { colors = colors; depth = depth; queries = queries; max_draws = max_draws })) made)
     ▹ need (codes "on") name_at
     ▹ need (codes "colors") (list_at (null_or color_target_of))
     ▹ may (codes "depth") (item_if depth_target_of)
     ▹ may (codes "queries") (item_if name_item)
+    ▹ may (codes "maxDrawCount") (whole_if most_whole)
     ▹ all_of made_keys
 
 -- the reader of a beginRenderPass
@@ -52,12 +54,12 @@ begin_render_pass_of d = read_by begin_render_pass_keys d
 
 -- ---- what is set
 
--- setVertexBuffer: no size stands for what remains of the buffer from the offset on
+-- setVertexBuffer: a buffer that is null leaves nothing set, and no size stands for what remains of the buffer from the offset on
 abbrev pub set_vertex_buffer_keys : Reader Call
 set_vertex_buffer_keys = gives (λ on slot buffer offset size. recording on (SetVertexBuffer slot buffer offset size))
     ▹ need (codes "on") name_at
     ▹ need (codes "slot") (whole_at most_short)
-    ▹ need (codes "buffer") name_at
+    ▹ need (codes "buffer") (item_or_null name_item)
     ▹ may (codes "offset") (whole_or most_whole 0)
     ▹ may (codes "size") (whole_if most_whole)
 
@@ -77,6 +79,61 @@ set_index_buffer_keys = gives (λ on buffer format offset size. recording on (Se
 -- the reader of a setIndexBuffer
 unfoldable pub set_index_buffer_of : Data → Result Call ℕ
 set_index_buffer_of d = read_by set_index_buffer_keys d
+
+-- setViewport: each number stands for itself over 65536. Where nothing else is said, the viewport begins at the left upper corner
+-- of what is attached, and has all depths
+abbrev pub set_viewport_keys : Reader Call
+set_viewport_keys =
+    gives (λ on x left y above width height min_depth max_depth. recording on (SetViewport (record {
+      x = x;
+      left = left;
+      y = y;
+      above = above;
+      width = width;
+      height = height;
+      min_depth = min_depth;
+      max_depth = max_depth;
+    })))
+    ▹ need (codes "on") name_at
+    ▹ may (codes "x") (whole_or most_whole 0)
+    ▹ may (codes "left") (flag_or false)
+    ▹ may (codes "y") (whole_or most_whole 0)
+    ▹ may (codes "above") (flag_or false)
+    ▹ need (codes "width") (whole_at most_whole)
+    ▹ need (codes "height") (whole_at most_whole)
+    ▹ may (codes "minDepth") (whole_or most_whole 0)
+    ▹ may (codes "maxDepth") (whole_or most_whole 65536)
+
+-- the reader of a setViewport
+unfoldable pub set_viewport_of : Data → Result Call ℕ
+set_viewport_of d = read_by set_viewport_keys d
+
+-- setScissorRect
+abbrev pub set_scissor_rect_keys : Reader Call
+set_scissor_rect_keys = gives (λ on x y width height. recording on (SetScissorRect x y width height))
+    ▹ need (codes "on") name_at
+    ▹ need (codes "x") (whole_at most_short)
+    ▹ need (codes "y") (whole_at most_short)
+    ▹ need (codes "width") (whole_at most_short)
+    ▹ need (codes "height") (whole_at most_short)
+
+-- the reader of a setScissorRect
+unfoldable pub set_scissor_rect_of : Data → Result Call ℕ
+set_scissor_rect_of d = read_by set_scissor_rect_keys d
+
+-- setBlendConstant
+unfoldable pub set_blend_constant_of : Data → Result Call ℕ
+set_blend_constant_of d = bare_of SetBlendConstant d
+
+-- setStencilReference: the reference is not looked at further
+abbrev pub set_stencil_reference_keys : Reader Call
+set_stencil_reference_keys = gives (λ on reference. recording on SetStencilReference)
+    ▹ need (codes "on") name_at
+    ▹ need (codes "reference") (whole_at most_short)
+
+-- the reader of a setStencilReference
+unfoldable pub set_stencil_reference_of : Data → Result Call ℕ
+set_stencil_reference_of d = read_by set_stencil_reference_keys d
 
 -- ---- draws
 

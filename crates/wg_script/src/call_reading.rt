@@ -5,7 +5,7 @@ ghost use Rattle.std.specs.List.{find};
 ghost use Rattle.wg_json.specs.View.{view};
 ghost use Rattle.wg_types.specs.Words.{word_text, word_of};
 ghost use Rattle.wg_script.specs.Giving.{Gives};
-ghost use Rattle.wg_script.specs.Calls.{call_of, call_as, create_buffer_of, create_encoder_of, finish_of, submit_of, write_buffer_of, destroy_of, drop_of, complete_of, push_error_scope_of, keyless_of, pop_error_scope_of, work_done_of, lose_of, map_async_of, unmap_of, copy_buffer_to_buffer_of, clear_buffer_of, push_debug_group_of, pop_debug_group_of};
+ghost use Rattle.wg_script.specs.Calls.{call_of, call_as, create_buffer_of, create_encoder_of, finish_of, submit_of, write_buffer_of, destroy_of, drop_of, complete_of, push_error_scope_of, keyless_of, pop_error_scope_of, work_done_of, lose_of, map_async_of, unmap_of, copy_buffer_to_buffer_of, clear_buffer_of, push_debug_group_of, pop_debug_group_of, insert_debug_marker_of};
 
 use crate::binding_calls::{
     create_bind_group, create_bind_group_layout, create_compute_pipeline, create_pipeline_layout,
@@ -26,7 +26,8 @@ use crate::query_calls::{
 };
 use crate::render_calls::{
     begin_render_pass, create_render_pipeline, draw, draw_indexed, draw_indexed_indirect,
-    draw_indirect, set_index_buffer, set_vertex_buffer,
+    draw_indirect, set_blend_constant, set_index_buffer, set_scissor_rect, set_stencil_reference,
+    set_vertex_buffer, set_viewport,
 };
 use crate::texture_calls::{
     copy_buffer_to_texture, copy_texture_to_buffer, copy_texture_to_texture, create_texture,
@@ -231,6 +232,16 @@ fn pop_debug_group(alloc: Global, call: &Value<'_>) -> Result<Call, Refusal>
     bare(alloc, call, CommandOf::PopDebugGroup)
 }
 
+#[tactic(auto, unfolding(crate::specs::Calls::insert_debug_marker_of))]
+fn insert_debug_marker(alloc: Global, call: &Value<'_>) -> Result<Call, Refusal>
+    ensures { Gives result (insert_debug_marker_of (view call.now)) }
+{
+    reading!(call:
+        need on = name_at(alloc, "on");
+        may _label = label_if("label");
+        => recording(on, CommandOf::InsertDebugMarker))
+}
+
 /// Reads a call that this word names.
 fn call_as(alloc: Global, word: Word, call: &Value<'_>) -> Result<Call, Refusal>
     ensures { Gives result (call_as word (view call.now)) }
@@ -271,6 +282,7 @@ fn call_as(alloc: Global, word: Word, call: &Value<'_>) -> Result<Call, Refusal>
         Word::ResolveQuerySet => resolve_query_set(alloc, call),
         Word::PushDebugGroup => push_debug_group(alloc, call),
         Word::PopDebugGroup => pop_debug_group(alloc, call),
+        Word::InsertDebugMarker => insert_debug_marker(alloc, call),
         Word::BeginComputePass => begin_compute_pass(alloc, call),
         Word::End => end(alloc, call),
         Word::SetPipeline => set_pipeline(alloc, call),
@@ -280,6 +292,10 @@ fn call_as(alloc: Global, word: Word, call: &Value<'_>) -> Result<Call, Refusal>
         Word::BeginRenderPass => begin_render_pass(alloc, call),
         Word::SetVertexBuffer => set_vertex_buffer(alloc, call),
         Word::SetIndexBuffer => set_index_buffer(alloc, call),
+        Word::SetViewport => set_viewport(alloc, call),
+        Word::SetScissorRect => set_scissor_rect(alloc, call),
+        Word::SetBlendConstant => set_blend_constant(alloc, call),
+        Word::SetStencilReference => set_stencil_reference(alloc, call),
         Word::Draw => draw(alloc, call),
         Word::DrawIndexed => draw_indexed(alloc, call),
         Word::DrawIndirect => draw_indirect(alloc, call),

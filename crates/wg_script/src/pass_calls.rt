@@ -6,7 +6,7 @@ ghost use Rattle.wg_script.specs.PassCalls.{begin_compute_pass_of, bare_of, end_
 use crate::calling::{beginning, recording};
 use crate::calls::Call;
 use crate::labels::made_in;
-use crate::lists::list_or_empty;
+use crate::lists::{item_or_null, list_or_empty};
 use crate::name::Name;
 use crate::values::{
     MOST_WHOLE, Refusal, check_keys, name_at, reading, short_at, short_or, whole_at,
@@ -63,7 +63,7 @@ pub fn set_bind_group(alloc: Global, call: &Value<'_>) -> Result<Call, Refusal>
     reading!(call:
         need on = name_at(alloc, "on");
         need index = short_at("index");
-        need group = name_at(alloc, "group");
+        need group = item_or_null(alloc, "group");
         may offsets = list_or_empty(alloc, "offsets");
         => recording(on, CommandOf::SetBindGroup { index, group, offsets: Shared::new(alloc, offsets)? }))
 }

@@ -1,24 +1,25 @@
 //! Reads the calls on render pipelines, render passes and draws: a function for each, with its keys.
 ghost use Rattle.wg_json.specs.View.{view};
 ghost use Rattle.wg_script.specs.Giving.{Gives};
-ghost use Rattle.wg_script.specs.RenderCalls.{create_render_of, begin_render_pass_of, set_vertex_buffer_of, set_index_buffer_of, draw_of, draw_indexed_of, draw_indirect_of, draw_indexed_indirect_of};
+ghost use Rattle.wg_script.specs.RenderCalls.{create_render_of, begin_render_pass_of, set_vertex_buffer_of, set_index_buffer_of, set_viewport_of, set_scissor_rect_of, set_blend_constant_of, set_stencil_reference_of, draw_of, draw_indexed_of, draw_indirect_of, draw_indexed_indirect_of};
 
 use crate::binding_calls::layout_at;
 use crate::binding_entries::staged_or_empty;
 use crate::calling::{beginning, making, recording};
 use crate::calls::Call;
 use crate::labels::made_in;
-use crate::lists::{item_if, list_at, list_or_empty};
-use crate::pass_calls::{IndirectCall, indirect};
+use crate::lists::{item_if, item_or_null, list_at, list_or_empty};
+use crate::pass_calls::{IndirectCall, bare, indirect};
 use crate::render_words::INDEX_FORMATS;
 use crate::values::{
-    MOST_WHOLE, Refusal, check_keys, name_at, reading, short_at, short_or, whole_if, whole_or,
+    MOST_WHOLE, Refusal, check_keys, flag_or, name_at, reading, short_at, short_or, whole_at,
+    whole_if, whole_or,
 };
 use crate::words::word_at;
 use std::alloc::Global;
 use wg_json::Value;
 use wg_types::commands::CommandOf;
-use wg_types::render::{RenderBeginOf, RenderDesc};
+use wg_types::render::{RenderBeginOf, RenderDesc, Viewport};
 use wg_types::requests::RequestOf;
 use wg_types::shared::Shared;
 
@@ -51,8 +52,9 @@ pub fn begin_render_pass(alloc: Global, call: &Value<'_>) -> Result<Call, Refusa
         need colors = list_at(alloc, "colors");
         may depth = item_if(alloc, "depth");
         may queries = item_if(alloc, "queries");
+        may max_draws = whole_if("maxDrawCount", MOST_WHOLE);
         make made = made_in(alloc);
-        => beginning(on, CommandOf::BeginRenderPass { begin: RenderBeginOf { colors, depth, queries } }, made))
+        => beginning(on, CommandOf::BeginRenderPass { begin: RenderBeginOf { colors, depth, queries, max_draws } }, made))
 }
 
 /// Reads `setVertexBuffer`.
@@ -63,7 +65,7 @@ pub fn set_vertex_buffer(alloc: Global, call: &Value<'_>) -> Result<Call, Refusa
     reading!(call:
         need on = name_at(alloc, "on");
         need slot = short_at("slot");
-        need buffer = name_at(alloc, "buffer");
+        need buffer = item_or_null(alloc, "buffer");
         may offset = whole_or("offset", MOST_WHOLE, 0);
         may size = whole_if("size", MOST_WHOLE);
         => recording(on, CommandOf::SetVertexBuffer { slot, buffer, offset, size }))
@@ -81,6 +83,59 @@ pub fn set_index_buffer(alloc: Global, call: &Value<'_>) -> Result<Call, Refusal
         may offset = whole_or("offset", MOST_WHOLE, 0);
         may size = whole_if("size", MOST_WHOLE);
         => recording(on, CommandOf::SetIndexBuffer { buffer, format, offset, size }))
+}
+
+/// Reads `setViewport`.
+#[tactic(auto, unfolding(crate::specs::RenderCalls::set_viewport_of))]
+pub fn set_viewport(alloc: Global, call: &Value<'_>) -> Result<Call, Refusal>
+    ensures { Gives result (set_viewport_of (view call.now)) }
+{
+    reading!(call:
+        need on = name_at(alloc, "on");
+        may x = whole_or("x", MOST_WHOLE, 0);
+        may left = flag_or("left", false);
+        may y = whole_or("y", MOST_WHOLE, 0);
+        may above = flag_or("above", false);
+        need width = whole_at("width", MOST_WHOLE);
+        need height = whole_at("height", MOST_WHOLE);
+        may min_depth = whole_or("minDepth", MOST_WHOLE, 0);
+        may max_depth = whole_or("maxDepth", MOST_WHOLE, 65_536);
+        => recording(on, CommandOf::SetViewport {
+            viewport: Viewport { x, left, y, above, width, height, min_depth, max_depth },
+        }))
+}
+
+/// Reads `setScissorRect`.
+#[tactic(auto, unfolding(crate::specs::RenderCalls::set_scissor_rect_of))]
+pub fn set_scissor_rect(alloc: Global, call: &Value<'_>) -> Result<Call, Refusal>
+    ensures { Gives result (set_scissor_rect_of (view call.now)) }
+{
+    reading!(call:
+        need on = name_at(alloc, "on");
+        need x = short_at("x");
+        need y = short_at("y");
+        need width = short_at("width");
+        need height = short_at("height");
+        => recording(on, CommandOf::SetScissorRect { x, y, width, height }))
+}
+
+/// Reads `setBlendConstant`.
+#[tactic(auto, unfolding(crate::specs::RenderCalls::set_blend_constant_of))]
+pub fn set_blend_constant(alloc: Global, call: &Value<'_>) -> Result<Call, Refusal>
+    ensures { Gives result (set_blend_constant_of (view call.now)) }
+{
+    bare(alloc, call, CommandOf::SetBlendConstant)
+}
+
+/// Reads `setStencilReference`.
+#[tactic(auto, unfolding(crate::specs::RenderCalls::set_stencil_reference_of))]
+pub fn set_stencil_reference(alloc: Global, call: &Value<'_>) -> Result<Call, Refusal>
+    ensures { Gives result (set_stencil_reference_of (view call.now)) }
+{
+    reading!(call:
+        need on = name_at(alloc, "on");
+        need _reference = short_at("reference");
+        => recording(on, CommandOf::SetStencilReference))
 }
 
 /// Reads `draw`.

@@ -2,6 +2,7 @@
 use Rattle.std.specs.Prelude.{nat_lt, None, is_none, option_to_list}
 use Rattle.std.proofs.Common.{◌≡◌, ℕ, ◌+◌, ◌*◌, ◌==◌, List, [], ◌∷◌, map, Bool, true, false, ◌&&◌, not, ap, sym, ◌∙◌, subst, if◌then◌else◌, true≢false, eqb-true, eq-eqb}
 use Rattle.std.proofs.lemmas.Bool.{and_parts, and_from, or_left, or_right}
+use Rattle.wg_types.specs.declared.limits.Maker.{Maker}
 use Rattle.wg_types.specs.Commands.{Command}
 use Rattle.wg_types.specs.declared.commands.CommandOf.TheVariants.{CopyBufferToBuffer, CopyBufferToTexture, CopyTextureToBuffer, CopyTextureToTexture, ClearBuffer, ResolveQuerySet}
 use Rattle.wg_trace.specs.declared.parts.Aspect.{Aspect}
@@ -123,31 +124,31 @@ heads_apart a b lo hi lo2 hi2 ne e = ne (cc)
 queries_apart : (a b lo hi lo2 hi2 : ℕ) → cell_line (Queries a lo hi) ≡ cell_line (Bytes b lo2 hi2) → ⊥
 queries_apart a b lo hi lo2 hi2 e = cc
 
-pub encoder_agree : (device depth_ : ℕ) (command : Command) → encoder_gives device None depth_ command ≡ None → EachRow AgreeDoing (option_to_list (encoder_does command))
+pub encoder_agree : (maker : Maker) (depth_ : ℕ) (command : Command) → encoder_gives maker None depth_ command ≡ None → EachRow AgreeDoing (option_to_list (encoder_does command))
 unfolding encoder_does
-encoder_agree device depth_ (CopyBufferToBuffer source source_offset target target_offset size) e =
-    let met : AreMet (command_rules device depth_ (CopyBufferToBuffer source source_offset target target_offset size)) = all_met (command_rules device depth_ (CopyBufferToBuffer source source_offset target target_offset size)) (ap is_none e) in
+encoder_agree maker depth_ (CopyBufferToBuffer source source_offset target target_offset size) e =
+    let met : AreMet (command_rules maker.device depth_ (CopyBufferToBuffer source source_offset target target_offset size)) = all_met (command_rules maker.device depth_ (CopyBufferToBuffer source source_offset target target_offset size)) (ap is_none e) in
     unless_agree (size == 0) _ (
       (
         apart_agree (read_cells (bytes_at source.reference.number source_offset size)) (written_cells Write (bytes_at target.reference.number target_offset size))
             (heads_apart source.reference.number target.reference.number source_offset (source_offset + size) target_offset (target_offset + size)
-            (λ n. not_true (same_reference source.reference target.reference) met.1.1.1.1.1.1.1.1.0 (not_same source.reference target.reference device (and_parts _ _ met.0).0 (and_parts _ _ met.1.1.0).0 n))),
+            (λ n. not_true (same_reference source.reference target.reference) met.1.1.1.1.1.1.1.1.0 (not_same source.reference target.reference maker.device (and_parts _ _ met.0).0 (and_parts _ _ met.1.1.0).0 n))),
         tt,
       ),
       (tt, tt),
     )
-encoder_agree device depth_ (CopyBufferToTexture buffer layout texture spot size) e =
+encoder_agree maker depth_ (CopyBufferToTexture buffer layout texture spot size) e =
     unless_agree (has_no_texel size) _ (
       bytes_agree buffer.reference.number layout.offset (layout.offset + layout_bytes layout (texel_to spot.aspect (texture_of texture).format) size) (copy_src_usage, Read) (copy_dst_usage, target_kind (texture_of texture) spot size) (copied_cells texture.reference.number (texture_of texture) spot size) (copied_textures texture.reference.number (texture_of texture) spot size),
       map_agree (copy_dst_usage, target_kind (texture_of texture) spot size) (copied_cells texture.reference.number (texture_of texture) spot size),
     )
-encoder_agree device depth_ (CopyTextureToBuffer buffer layout texture spot size) e =
+encoder_agree maker depth_ (CopyTextureToBuffer buffer layout texture spot size) e =
     unless_agree (has_no_texel size) _ (
       bytes_agree buffer.reference.number layout.offset (layout.offset + layout_bytes layout (texel_from spot.aspect (texture_of texture).format) size) (copy_dst_usage, range_kind (layout_bytes layout (texel_from spot.aspect (texture_of texture).format) size) (bytes_in (texel_from spot.aspect (texture_of texture).format)) size) (copy_src_usage, Read) (copied_cells texture.reference.number (texture_of texture) spot size) (copied_textures texture.reference.number (texture_of texture) spot size),
       map_agree (copy_src_usage, Read) (copied_cells texture.reference.number (texture_of texture) spot size),
     )
-encoder_agree device depth_ (CopyTextureToTexture source source_mip source_origin target target_mip target_origin size) e =
-    let met : AreMet (command_rules device depth_ (CopyTextureToTexture source source_mip source_origin target target_mip target_origin size)) = all_met (command_rules device depth_ (CopyTextureToTexture source source_mip source_origin target target_mip target_origin size)) (ap is_none e) in
+encoder_agree maker depth_ (CopyTextureToTexture source source_mip source_origin target target_mip target_origin size) e =
+    let met : AreMet (command_rules maker.device depth_ (CopyTextureToTexture source source_mip source_origin target target_mip target_origin size)) = all_met (command_rules maker.device depth_ (CopyTextureToTexture source source_mip source_origin target target_mip target_origin size)) (ap is_none e) in
     let from : TextureSpot = whole_spot source_mip source_origin in
     let to : TextureSpot = whole_spot target_mip target_origin in
     unless_agree (has_no_texel size) _
@@ -156,9 +157,9 @@ encoder_agree device depth_ (CopyTextureToTexture source source_mip source_origi
     (map_agree (copy_dst_usage, target_kind (texture_of target) to size) (copied_cells target.reference.number (texture_of target) to size))
     (all_cross (copied_cells source.reference.number (texture_of source) from size) (copied_cells target.reference.number (texture_of target) to size) (copy_src_usage, Read) (copy_dst_usage, target_kind (texture_of target) to size)
     (copies_apart source.reference.number target.reference.number (texture_of source) (texture_of target) from to size
-    (λ n meet. not_both (same_reference source.reference target.reference) (copies_meet (texture_of source) from (texture_of target) to size) met.1.1.1.1.1.1.1.1.1.1.0 (not_same source.reference target.reference device (and_parts _ _ met.0).0 (and_parts _ _ met.1.1.0).0 n) meet))))
-encoder_agree device depth_ (ClearBuffer buffer offset size) e = unless_agree (size_or_rest buffer offset size == 0) _ (tt, tt)
-encoder_agree device depth_ (ResolveQuerySet queries first count buffer offset) e =
+    (λ n meet. not_both (same_reference source.reference target.reference) (copies_meet (texture_of source) from (texture_of target) to size) met.1.1.1.1.1.1.1.1.1.1.0 (not_same source.reference target.reference maker.device (and_parts _ _ met.0).0 (and_parts _ _ met.1.1.0).0 n) meet))))
+encoder_agree maker depth_ (ClearBuffer buffer offset size) e = unless_agree (size_or_rest buffer offset size == 0) _ (tt, tt)
+encoder_agree maker depth_ (ResolveQuerySet queries first count buffer offset) e =
     unless_agree (count == 0) _ (
       (
         apart_agree (queries_read queries.reference.number first count) (written_cells Write (bytes_at buffer.reference.number offset (query_bytes * count)))
@@ -167,4 +168,4 @@ encoder_agree device depth_ (ResolveQuerySet queries first count buffer offset) 
       ),
       (tt, tt),
     )
-encoder_agree device depth_ _ e = tt
+encoder_agree maker depth_ _ e = tt

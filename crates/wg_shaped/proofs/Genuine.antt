@@ -4,6 +4,7 @@ use Rattle.std.specs.List.{flat_map, list_any}
 use Rattle.std.specs.Option.{option_or, option_map_or, unwrap_or}
 use Rattle.std.proofs.Common.{◌≡◌, ℕ, ◌==◌, ◌&&◌, not, List, [], ◌∷◌, map, Bool, true, false, Option, Some, None, is_none, refl, sym, subst, if◌then◌else◌, true≢false}
 use Rattle.std.proofs.lemmas.Bool.{and_parts, or_parts}
+use Rattle.wg_types.specs.declared.limits.Maker.{Maker}
 use Rattle.wg_types.specs.Commands.{Command, named}
 use Rattle.wg_types.specs.Render.{color_named, targets_named, depth_named}
 use Rattle.wg_types.specs.Refs.{all_wanted, maybe_wanted}
@@ -136,9 +137,9 @@ bundled_fair : (kept : List (On × Command)) → AreFairKept kept → AreFair (m
 bundled_fair [] h = tt
 bundled_fair (one ∷ kept) h = (h.0, bundled_fair kept h.1)
 
-of_fair : (device : ℕ) (targets : Option TargetInfo) (commands : List (On × Command)) → AreFairKept commands → IsFairInfo (Some (bundle_of device targets commands))
-of_fair device None commands fair = tt
-of_fair device (Some targets) commands fair = by_verdict (is_none (bundle_verdict device targets (bundled commands)))
+of_fair : (maker : Maker) (targets : Option TargetInfo) (commands : List (On × Command)) → AreFairKept commands → IsFairInfo (Some (bundle_of maker targets commands))
+of_fair maker None commands fair = tt
+of_fair maker (Some targets) commands fair = by_verdict (is_none (bundle_verdict maker targets (bundled commands)))
   where
     by_verdict : (b : Bool) → EachRow (λ touch. is_scoped touch.cells ≡ true) (if b then bundle_touches (bundle_set targets (bundled commands)).touches else [])
     by_verdict true = touches_fair (touches_over None [] (bundled commands)) (over_told None [] (bundled commands) (bundled_fair (reverse commands) (each_reverse commands fair)) tt)
@@ -153,12 +154,12 @@ made_fair : (setup : Setup) (older : Past) (event : Event) (known : BundleInfo) 
 unfolding finish_bundle_rule
 made_fair setup older (FinishBundle encoder recording) known run fair e made =
     let rules : is_none (finish_bundle_rule setup older encoder recording) ≡ true = (and_parts (not (is_lost older)) (is_none (finish_bundle_rule setup older encoder recording)) made).1 in
-    let later = or_none (first_unmet (encoder_rules setup older _ encoder)) (option_or (Verdict recording.device recording.targets recording.commands) (first_unmet (kept_rules setup older encoder.number recording))) rules in
-    let last = or_none (Verdict recording.device recording.targets recording.commands) (first_unmet (kept_rules setup older encoder.number recording)) later.1 in
+    let later = or_none (first_unmet (encoder_rules setup older _ encoder)) (option_or (Verdict recording.maker recording.targets recording.commands) (first_unmet (kept_rules setup older encoder.number recording))) rules in
+    let last = or_none (Verdict recording.maker recording.targets recording.commands) (first_unmet (kept_rules setup older encoder.number recording)) later.1 in
     let met : AreMet (kept_rules setup older encoder.number recording) = all_met (kept_rules setup older encoder.number recording) last.1 in
-    let same : bundle_of recording.device recording.targets recording.commands ≡ known = cc in
+    let same : bundle_of recording.maker recording.targets recording.commands ≡ known = cc in
     subst (λ (bundle : BundleInfo). IsFairInfo (Some bundle)) same
-    (of_fair recording.device recording.targets recording.commands (kept_fair setup older encoder.number recording.commands run fair (not_true_false (any_barred setup older encoder.number recording.commands) met.1.0)))
+    (of_fair recording.maker recording.targets recording.commands (kept_fair setup older encoder.number recording.commands run fair (not_true_false (any_barred setup older encoder.number recording.commands) met.1.0)))
 made_fair setup older _ known run fair e made = absurd (cc)
 
 pub bundles_fair : (setup : Setup) (past : Past) → IsRun setup past → BundlesFair past

@@ -30,9 +30,9 @@ made_filled : (place : StepPlace) (o : Option Entry) → EachRow IsFilledStep (m
 made_filled place None = tt
 made_filled place (Some entry) = by_recording (recording_in entry.event)
   where
-    by_recording : (o : Option RecordingValue) → EachRow IsFilledStep (map (placed place) (option_map_or (λ (recording : RecordingValue). DeedsOf recording.device recording.targets recording.commands) o []))
+    by_recording : (o : Option RecordingValue) → EachRow IsFilledStep (map (placed place) (option_map_or (λ (recording : RecordingValue). DeedsOf recording.maker recording.targets recording.commands) o []))
     by_recording None = tt
-    by_recording (Some recording) = recorded_filled place recording.device recording.targets recording.commands
+    by_recording (Some recording) = recorded_filled place recording.maker recording.targets recording.commands
 
 all_filled : (past : Past) (op : ℕ) (buffers : List ObjRef) → EachRow (λ (buffer : ObjRef). EachRow IsFilledStep (steps_at (Op op) past buffer.number)) buffers
 all_filled past op [] = tt

@@ -16,3 +16,4 @@ pub mod Known
 pub mod Standing
 pub mod Naming
 pub mod Making
+pub mod Nulling

@@ -5,6 +5,7 @@ use Rattle.std.specs.Option.{option_or, option_map, option_map_or}
 use Rattle.std.proofs.Common.{◌≡◌, ℕ, ◌+◌, ◌≤◌, ◌==◌, ◌&&◌, not, nat_lt, nat_le, List, [], ◌∷◌, ◌++◌, map, Bool, true, false, Option, Some, None, is_some, is_none, refl, sym, subst, arith, eq-eqb, if◌then◌else◌, true≢false}
 use Rattle.std.specs.List.{list_any}
 use Rattle.std.proofs.lemmas.Bool.{and_parts, and_from, or_parts, leb-true, le-leb, lt-ltb}
+use Rattle.wg_types.specs.declared.limits.Maker.{Maker}
 use Rattle.wg_types.specs.Kinds.{kind_of}
 use Rattle.wg_types.specs.Wanted.{admits}
 use Rattle.wg_types.specs.Bindings.{entry_of, resource_named, entries_named}
@@ -186,7 +187,8 @@ genuine_first setup past encoder object objects e =
     (and_parts _ _ (double_not _ parts.0)).0
 
 command_whole : (setup : Setup) (past : Past) (encoder : ℕ) (command : Command) → IsRun setup past → list_any (is_barred setup past encoder) (named command) ≡ false → IsWholeCommand command
-command_whole setup past encoder (SetBindGroup index group offsets) run e = handle_whole setup past group run (genuine_first setup past encoder (group, wanted.Group) [] e)
+command_whole setup past encoder (SetBindGroup index None offsets) run e = tt
+command_whole setup past encoder (SetBindGroup index (Some group) offsets) run e = handle_whole setup past group run (genuine_first setup past encoder (group, wanted.Group) [] e)
 command_whole setup past encoder _ run e = tt
 
 kept_whole : (setup : Setup) (past : Past) (encoder : ℕ) (commands : List (On × Command)) → IsRun setup past → any_barred setup past encoder commands ≡ false → EachRow (λ (kept : On × Command). IsWholeCommand kept.1) commands
@@ -200,37 +202,58 @@ not_true_false : (b : Bool) → not b ≡ true → b ≡ false
 not_true_false true e = sym e
 not_true_false false e = refl
 
-bundle_named : (setup : Setup) (older : Past) (encoder : ObjRef) (device : ℕ) (targets : TargetInfo) (commands : List (On × Command)) → IsRun setup older → MayStand commands
-    → is_none (finish_bundle_rule setup older encoder (record { device = device; targets = Some targets; commands = commands })) ≡ true
-    → TouchesWhatIsNamed (bundle_of device (Some targets) commands) commands
+bundle_named : (setup : Setup) (older : Past) (encoder : ObjRef) (made_by : Maker) (targets : TargetInfo) (commands : List (On × Command)) → IsRun setup older → MayStand commands
+    → is_none (finish_bundle_rule setup older encoder (record { maker = made_by; targets = Some targets; commands = commands })) ≡ true
+    → TouchesWhatIsNamed (bundle_of made_by (Some targets) commands) commands
 unfolding finish_bundle_rule
-bundle_named setup older encoder device targets commands run stand rules =
-    let later = or_none (first_unmet (encoder_rules setup older _ encoder)) (option_or (Verdict device (Some targets) commands) (first_unmet (kept_rules setup older encoder.number (record { device = device; targets = Some targets; commands = commands })))) rules in
-    let last = or_none (Verdict device (Some targets) commands) (first_unmet (kept_rules setup older encoder.number (record { device = device; targets = Some targets; commands = commands }))) later.1 in
-    let met : AreMet (kept_rules setup older encoder.number (record { device = device; targets = Some targets; commands = commands })) = all_met (kept_rules setup older encoder.number (record { device = device; targets = Some targets; commands = commands })) last.1 in
-    bundles_touch_what_they_name device targets commands stand
+bundle_named setup older encoder made_by targets commands run stand rules =
+    let later = or_none (first_unmet (encoder_rules setup older _ encoder)) (option_or (Verdict made_by (Some targets) commands) (first_unmet (kept_rules setup older encoder.number (record { maker = made_by; targets = Some targets; commands = commands })))) rules in
+    let last = or_none (Verdict made_by (Some targets) commands) (first_unmet (kept_rules setup older encoder.number (record { maker = made_by; targets = Some targets; commands = commands }))) later.1 in
+    let met : AreMet (kept_rules setup older encoder.number (record { maker = made_by; targets = Some targets; commands = commands })) = all_met (kept_rules setup older encoder.number (record { maker = made_by; targets = Some targets; commands = commands })) last.1 in
+    bundles_touch_what_they_name made_by targets commands stand
     (kept_whole setup older encoder.number commands run (not_true_false (any_barred setup older encoder.number commands) met.1.0))
-    (none_is (Verdict device (Some targets) commands) last.0)
+    (none_is (Verdict made_by (Some targets) commands) last.0)
 
-abbrev made_bundle : ObjRef → ℕ → TargetInfo → List (On × Command) → Event
-made_bundle encoder device targets commands = FinishBundle encoder (record { device = device; targets = Some targets; commands = commands })
+abbrev made_bundle : ObjRef → Maker → TargetInfo → List (On × Command) → Event
+made_bundle encoder made_by targets commands = FinishBundle encoder (record { maker = made_by; targets = Some targets; commands = commands })
 
-past_named : (setup : Setup) (past : Past) (bundle : ℕ) (encoder : ObjRef) (device : ℕ) (targets : TargetInfo) (commands : List (On × Command)) → IsRun setup past → is_valid past bundle ≡ true
-    → option_map (λ (entry : Entry). entry.event) (maker past bundle) ≡ Some (made_bundle encoder device targets commands) → MayStand commands → TouchesWhatIsNamed (bundle_of device (Some targets) commands) commands
-past_named setup [] bundle encoder device targets commands run valid e stand = absurd (true≢false (sym valid))
-past_named setup (entry ∷ older) bundle encoder device targets commands run valid e stand =
-    by_maker (is_making entry.event && count older == bundle) valid e (λ valid e. past_named setup older bundle encoder device targets commands (others setup entry older run) valid e stand)
+-- No rule of a bundle's commands is unmet where its finish is accepted.
+pub no_verdict : (setup : Setup) (older : Past) (encoder : ObjRef) (made_by : Maker) (targets : TargetInfo) (commands : List (On × Command))
+    → is_none (finish_bundle_rule setup older encoder (record { maker = made_by; targets = Some targets; commands = commands })) ≡ true → Verdict made_by (Some targets) commands ≡ None
+unfolding finish_bundle_rule
+no_verdict setup older encoder made_by targets commands rules =
+    let later = or_none (first_unmet (encoder_rules setup older _ encoder)) (option_or (Verdict made_by (Some targets) commands) (first_unmet (kept_rules setup older encoder.number (record { maker = made_by; targets = Some targets; commands = commands })))) rules in
+    none_is (Verdict made_by (Some targets) commands)
+    (or_none (Verdict made_by (Some targets) commands) (first_unmet (kept_rules setup older encoder.number (record { maker = made_by; targets = Some targets; commands = commands }))) later.1).0
+
+-- A finish of a bundle encoder was accepted after some beginning of a run.
+pub record WasAccepted (setup : Setup) (encoder : ObjRef) (made_by : Maker) (targets : TargetInfo) (commands : List (On × Command)) : Type 0 where
+  pub older : Past
+  pub run : IsRun setup older
+  pub met : is_none (finish_bundle_rule setup older encoder (record { maker = made_by; targets = Some targets; commands = commands })) ≡ true
+
+pub past_accepted : (setup : Setup) (past : Past) (bundle : ℕ) (encoder : ObjRef) (made_by : Maker) (targets : TargetInfo) (commands : List (On × Command)) → IsRun setup past → is_valid past bundle ≡ true
+    → option_map (λ (entry : Entry). entry.event) (maker past bundle) ≡ Some (made_bundle encoder made_by targets commands) → WasAccepted setup encoder made_by targets commands
+past_accepted setup [] bundle encoder made_by targets commands run valid e = absurd (true≢false (sym valid))
+past_accepted setup (entry ∷ older) bundle encoder made_by targets commands run valid e =
+    by_maker (is_making entry.event && count older == bundle) valid e (λ valid e. past_accepted setup older bundle encoder made_by targets commands (others setup entry older run) valid e)
   where
-    made : entry.event ≡ made_bundle encoder device targets commands → is_made_valid (answer_by older (effects_of entry.event).form (not (is_lost older) && is_none (first_rule setup older entry.event))) ≡ true → TouchesWhatIsNamed (bundle_of device (Some targets) commands) commands
+    made : entry.event ≡ made_bundle encoder made_by targets commands → is_made_valid (answer_by older (effects_of entry.event).form (not (is_lost older) && is_none (first_rule setup older entry.event))) ≡ true → WasAccepted setup encoder made_by targets commands
     made same met =
-        let those : is_made_valid (answer_by older (effects_of (made_bundle encoder device targets commands)).form (not (is_lost older) && is_none (first_rule setup older (made_bundle encoder device targets commands)))) ≡ true = subst (λ (event : Event). is_made_valid (answer_by older (effects_of event).form (not (is_lost older) && is_none (first_rule setup older event))) ≡ true) same met in
-        bundle_named setup older encoder device targets commands (others setup entry older run) stand (and_parts (not (is_lost older)) (is_none (finish_bundle_rule setup older encoder (record { device = device; targets = Some targets; commands = commands }))) those).1
+        let those : is_made_valid (answer_by older (effects_of (made_bundle encoder made_by targets commands)).form (not (is_lost older) && is_none (first_rule setup older (made_bundle encoder made_by targets commands)))) ≡ true = subst (λ (event : Event). is_made_valid (answer_by older (effects_of event).form (not (is_lost older) && is_none (first_rule setup older event))) ≡ true) same met in
+        record {
+          older = older;
+          run = others setup entry older run;
+          met = (and_parts (not (is_lost older)) (is_none (finish_bundle_rule setup older encoder (record { maker = made_by; targets = Some targets; commands = commands }))) those).1;
+        }
 
-    by_maker : (b : Bool) → option_map_or (λ entry. is_made_valid entry.reply.answer) (if b then Some entry else maker older bundle) false ≡ true → option_map (λ (entry : Entry). entry.event) (if b then Some entry else maker older bundle) ≡ Some (made_bundle encoder device targets commands)
-        → (is_valid older bundle ≡ true → option_map (λ (entry : Entry). entry.event) (maker older bundle) ≡ Some (made_bundle encoder device targets commands) → TouchesWhatIsNamed (bundle_of device (Some targets) commands) commands)
-        → TouchesWhatIsNamed (bundle_of device (Some targets) commands) commands
+    by_maker : (b : Bool) → option_map_or (λ entry. is_made_valid entry.reply.answer) (if b then Some entry else maker older bundle) false ≡ true → option_map (λ (entry : Entry). entry.event) (if b then Some entry else maker older bundle) ≡ Some (made_bundle encoder made_by targets commands)
+        → (is_valid older bundle ≡ true → option_map (λ (entry : Entry). entry.event) (maker older bundle) ≡ Some (made_bundle encoder made_by targets commands) → WasAccepted setup encoder made_by targets commands)
+        → WasAccepted setup encoder made_by targets commands
     by_maker true valid e rest = made (cc) (made_met setup entry older (newest setup entry older run) valid)
     by_maker false valid e rest = rest valid e
 
 pub history_touches_what_it_names : HistoryTouchesWhatItNames
-history_touches_what_it_names setup history bundle encoder device targets commands run valid e stand = past_named setup (reverse history) bundle encoder device targets commands run valid e stand
+history_touches_what_it_names setup history bundle encoder made_by targets commands run valid e stand =
+    let accepted : WasAccepted setup encoder made_by targets commands = past_accepted setup (reverse history) bundle encoder made_by targets commands run valid e in
+    bundle_named setup accepted.older encoder made_by targets commands accepted.run stand accepted.met

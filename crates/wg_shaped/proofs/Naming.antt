@@ -4,11 +4,12 @@ use Rattle.std.specs.List.{list_any, flat_map}
 use Rattle.std.specs.Option.{option_map_or}
 use Rattle.std.proofs.lemmas.Bool.{and_parts, and_from, or_cases, or_left, or_right}
 use Rattle.std.proofs.lemmas.List.Folds.{list_any-append}
+use Rattle.wg_types.specs.declared.limits.Maker.{Maker}
 use Rattle.wg_types.specs.Bindings.{entry_of}
 use Rattle.wg_types.specs.Handles.{HandleValue}
 use Rattle.wg_types.specs.Commands.{Command, fits}
 use Rattle.wg_types.specs.declared.commands.CommandPlace.TheVariants.{Bundle}
-use Rattle.wg_types.specs.declared.commands.CommandOf.TheVariants.{PushDebugGroup, PopDebugGroup, SetPipeline, SetBindGroup, SetVertexBuffer, SetIndexBuffer, Draw, DrawIndexed, DrawIndirect, DrawIndexedIndirect}
+use Rattle.wg_types.specs.declared.commands.CommandOf.TheVariants.{PushDebugGroup, PopDebugGroup, InsertDebugMarker, SetPipeline, SetBindGroup, SetVertexBuffer, SetIndexBuffer, Draw, DrawIndexed, DrawIndirect, DrawIndexedIndirect}
 use Rattle.wg_types.specs.declared.commands.On.{On}
 use Rattle.wg_types.specs.declared.wanted.Wanted.TheVariants as wanted
 use Rattle.wg_types.specs.declared.bindings.BoundEntry.{BoundEntry}
@@ -29,6 +30,7 @@ use Rattle.wg_model.specs.Commands.{size_or_rest}
 use Rattle.wg_model.specs.Touches.{Touch, use_of, input_usage}
 use Rattle.wg_model.specs.Bound.{Place, known_group, place_of, entry_places, places_in, resource_cells, place_touches, kind_touch}
 use Rattle.wg_model.specs.Bundles.{bundle_touch, in_bundle}
+use Rattle.wg_model.specs.Settings.{bound_with}
 use Rattle.wg_model.specs.Render.{bundle_set, command_touches, bound_group_touches, touches_over}
 use Rattle.wg_model.specs.Walk.{Verdict, bundled, bundle_of, recorded_touches}
 use Rattle.wg_model.specs.Recorded.{in_group, any_named}
@@ -186,16 +188,19 @@ no_pipeline texture_word test pipeline = refl
 no_pipeline query_word test pipeline = refl
 
 command_uses : (word : Word) (test : ℕ → Bool) (command : Command) → fits command Bundle ≡ true → IsWholeCommand command → list_any test (reached_of (reached_by word) command) ≡ true → Uses word test (command_touches None command)
-command_uses word test (SetBindGroup index group offsets) f whole e =
-    uses_left word test (bound_group_touches (Some (index, record { group = group; offsets = offsets }))) []
+command_uses word test (SetBindGroup index None offsets) f whole e = absurd (true≢false (sym e))
+command_uses word test (SetBindGroup index (Some group) offsets) f whole e =
+    uses_left word test (bound_group_touches (Some (index, Some (bound_with offsets group)))) []
     (info_uses word test (known_group group) offsets whole (group_reached word test group (ap (list_any test) (sym (append-nil (reached_by word wanted.Group group))) ∙ e)))
-command_uses word test (SetVertexBuffer slot buffer offset size) f whole e = input_uses word test buffer offset (offset + size_or_rest buffer offset size) e
+command_uses word test (SetVertexBuffer slot None offset size) f whole e = absurd (true≢false (sym e))
+command_uses word test (SetVertexBuffer slot (Some buffer) offset size) f whole e = input_uses word test buffer offset (offset + size_or_rest buffer offset size) e
 command_uses word test (SetIndexBuffer buffer format offset size) f whole e = input_uses word test buffer offset (offset + size_or_rest buffer offset size) e
 command_uses word test (DrawIndirect buffer offset) f whole e = input_uses word test buffer offset (offset + 16) e
 command_uses word test (DrawIndexedIndirect buffer offset) f whole e = input_uses word test buffer offset (offset + 20) e
 command_uses word test (SetPipeline pipeline) f whole e = absurd (true≢false (sym e ∙ no_pipeline word test pipeline))
 command_uses word test PushDebugGroup f whole e = absurd (true≢false (sym e))
 command_uses word test PopDebugGroup f whole e = absurd (true≢false (sym e))
+command_uses word test InsertDebugMarker f whole e = absurd (true≢false (sym e))
 command_uses word test (Draw vertices instances first_vertex first_instance) f whole e = absurd (true≢false (sym e))
 command_uses word test (DrawIndexed indices instances first_index first_instance) f whole e = absurd (true≢false (sym e))
 command_uses word test _ f whole e = absurd (true≢false (sym f))
@@ -216,14 +221,14 @@ any_second test [] = refl
 any_second test (one ∷ kept) = ap (λ b. test one.1 || b) (any_second test kept)
 
 -- So a bundle touches what its commands name,
-named_touched : (word : Word) (test : ℕ → Bool) (device : ℕ) (targets : TargetInfo) (commands : List (On × Command)) → MayStand commands → EachRow (λ (kept : On × Command). IsWholeCommand kept.1) commands → Verdict device (Some targets) commands ≡ None
-    → any_named (reached_of (reached_by word)) test commands ≡ true → list_any test (in_bundle (numbers_in word) (Some (bundle_of device (Some targets) commands))) ≡ true
-named_touched word test device targets commands stand whole none e =
+named_touched : (word : Word) (test : ℕ → Bool) (maker : Maker) (targets : TargetInfo) (commands : List (On × Command)) → MayStand commands → EachRow (λ (kept : On × Command). IsWholeCommand kept.1) commands → Verdict maker (Some targets) commands ≡ None
+    → any_named (reached_of (reached_by word)) test commands ≡ true → list_any test (in_bundle (numbers_in word) (Some (bundle_of maker (Some targets) commands))) ≡ true
+named_touched word test maker targets commands stand whole none e =
     let touches : List Touch = (bundle_set targets (bundled commands)).touches in
-    let known : List BundleTouch = recorded_touches device targets (bundled commands) in
+    let known : List BundleTouch = recorded_touches maker targets (bundled commands) in
     let back : list_any (reaches word test) (bundled commands) ≡ true = any_second (reaches word test) (reverse commands) ∙ (any_reversed (λ (kept : On × Command). reaches word test kept.1) commands ∙ e) in
     let uses : Uses word test touches = over_uses word test (bundled commands) (all_fit commands stand) (each_second IsWholeCommand (reverse commands) (each_back (λ (kept : On × Command). IsWholeCommand kept.1) commands whole)) back in
-    let alike : AreAlike (map bundle_touch known) touches = bundles_are_known device targets commands stand none in
+    let alike : AreAlike (map bundle_touch known) touches = bundles_are_known maker targets commands stand none in
     known_numbers word test uses.part known uses.own
     (used_is uses.part (map use_of (map bundle_touch known)) ∙ (ap is_some (alike.sets uses.part) ∙ (sym (used_is uses.part (map use_of touches)) ∙ uses.used)))
 
@@ -257,20 +262,20 @@ named_passes names test n (kept ∷ commands) t e = by_cases (or_cases (list_any
     by_cases (inl here) rest = or_left (list_any test (names kept.1)) (any_named names test commands) (passes_among test n (names kept.1) t here)
     by_cases (inr later) rest = or_right (list_any test (names kept.1)) (any_named names test commands) (rest later)
 
-touched_named : (word : Word) (test : ℕ → Bool) (device : ℕ) (targets : TargetInfo) (commands : List (On × Command)) → list_any test (in_bundle (numbers_in word) (Some (bundle_of device (Some targets) commands))) ≡ true → any_named (reached_of (reached_by word)) test commands ≡ true
-touched_named word test device targets commands e =
-    let found : Passes test (in_bundle (numbers_in word) (Some (bundle_of device (Some targets) commands))) = some_passes test _ e in
-    named_passes (reached_of (reached_by word)) test found.number commands found.passes (bundle_uses word found.number device (Some targets) commands found.among)
+touched_named : (word : Word) (test : ℕ → Bool) (maker : Maker) (targets : TargetInfo) (commands : List (On × Command)) → list_any test (in_bundle (numbers_in word) (Some (bundle_of maker (Some targets) commands))) ≡ true → any_named (reached_of (reached_by word)) test commands ≡ true
+touched_named word test maker targets commands e =
+    let found : Passes test (in_bundle (numbers_in word) (Some (bundle_of maker (Some targets) commands))) = some_passes test _ e in
+    named_passes (reached_of (reached_by word)) test found.number commands found.passes (bundle_uses word found.number maker (Some targets) commands found.among)
 
-word_same : (word : Word) (device : ℕ) (targets : TargetInfo) (commands : List (On × Command)) → MayStand commands → EachRow (λ (kept : On × Command). IsWholeCommand kept.1) commands → Verdict device (Some targets) commands ≡ None
-    → (test : ℕ → Bool) → list_any test (in_bundle (numbers_in word) (Some (bundle_of device (Some targets) commands))) ≡ any_named (reached_of (reached_by word)) test commands
-word_same word device targets commands stand whole none test =
-    same_test (list_any test (in_bundle (numbers_in word) (Some (bundle_of device (Some targets) commands)))) (any_named (reached_of (reached_by word)) test commands)
-    (touched_named word test device targets commands) (named_touched word test device targets commands stand whole none)
+word_same : (word : Word) (maker : Maker) (targets : TargetInfo) (commands : List (On × Command)) → MayStand commands → EachRow (λ (kept : On × Command). IsWholeCommand kept.1) commands → Verdict maker (Some targets) commands ≡ None
+    → (test : ℕ → Bool) → list_any test (in_bundle (numbers_in word) (Some (bundle_of maker (Some targets) commands))) ≡ any_named (reached_of (reached_by word)) test commands
+word_same word maker targets commands stand whole none test =
+    same_test (list_any test (in_bundle (numbers_in word) (Some (bundle_of maker (Some targets) commands)))) (any_named (reached_of (reached_by word)) test commands)
+    (touched_named word test maker targets commands) (named_touched word test maker targets commands stand whole none)
 
 pub bundles_touch_what_they_name : BundlesTouchWhatTheyName
-bundles_touch_what_they_name device targets commands stand whole none = record {
-  buffers = word_same buffer_word device targets commands stand whole none;
-  textures = word_same texture_word device targets commands stand whole none;
-  query_sets = word_same query_word device targets commands stand whole none;
+bundles_touch_what_they_name maker targets commands stand whole none = record {
+  buffers = word_same buffer_word maker targets commands stand whole none;
+  textures = word_same texture_word maker targets commands stand whole none;
+  query_sets = word_same query_word maker targets commands stand whole none;
 }

@@ -2,6 +2,7 @@
 use Rattle.std.specs.Prelude.{option_to_list, is_none, reverse}
 use Rattle.std.proofs.Common.{◌≡◌, ℕ, ◌&&◌, List, [], ◌∷◌, ◌++◌, map, Bool, true, false, Option, Some, None, ap, refl, sym, ◌∙◌, if◌then◌else◌}
 use Rattle.std.proofs.lemmas.Bool.{and_parts}
+use Rattle.wg_types.specs.declared.limits.Maker.{Maker}
 use Rattle.wg_types.specs.Commands.{Command, bracket, named}
 use Rattle.wg_types.specs.declared.commands.CommandOf.TheVariants.{BeginComputePass, BeginRenderPass, Dispatch, DispatchIndirect}
 use Rattle.wg_types.specs.declared.commands.On.{On}
@@ -89,26 +90,26 @@ render_agree : (render : RenderSet) (b : Bracket) → AreTold render.touches →
 render_agree render brackets.EndPass told att clear = (scope_agrees render.touches clear.0 told att, tt)
 render_agree render _ told att clear = tt
 
-begun_met : (device : ℕ) (begin : RenderBegin) → begun_rule device (BeginRenderPass begin) ≡ None → AreMet (begin_rules begin)
-begun_met device begin e = all_met (begin_rules begin) (ap is_none (or_none (first_unmet (common_rules device (named (BeginRenderPass begin)))) (first_unmet (begun_rules (BeginRenderPass begin))) e).1)
+begun_met : (maker : Maker) (begin : RenderBegin) → begun_rule maker (BeginRenderPass begin) ≡ None → AreMet (begin_rules begin)
+begun_met maker begin e = all_met (begin_rules begin) (ap is_none (or_none (first_unmet (common_rules maker.device (named (BeginRenderPass begin)))) (first_unmet (begun_rules (BeginRenderPass begin))) e).1)
 
-render_does_agree : (device : ℕ) (begin : RenderBegin) (earlier : List Command) (command : Command) → IsFair (BeginRenderPass begin) → AreFair earlier → begun_rule device (BeginRenderPass begin) ≡ None
+render_does_agree : (maker : Maker) (begin : RenderBegin) (earlier : List Command) (command : Command) → IsFair (BeginRenderPass begin) → AreFair earlier → begun_rule maker (BeginRenderPass begin) ≡ None
     → AreClear (map scope_in (option_to_list (render_does (render_set begin earlier) command))) → EachRow AgreeDoing (option_to_list (render_does (render_set begin earlier) command))
 unfolding render_does
-render_does_agree device begin earlier command fair fairs e clear =
+render_does_agree maker begin earlier command fair fairs e clear =
     render_agree (render_set begin earlier) (bracket command) (over_told (set_of_pass begin.queries) (targets_touches begin) earlier fairs (targets_told begin))
-    (over_attached (set_of_pass begin.queries) (targets_touches begin) earlier fairs (agree_attached (targets_touches begin) (targets_agree begin fair (begun_met device begin e)))) clear
+    (over_attached (set_of_pass begin.queries) (targets_touches begin) earlier fairs (agree_attached (targets_touches begin) (targets_agree begin fair (begun_met maker begin e)))) clear
 
-pass_agree : (device : ℕ) (begin : Command) (earlier : List Command) (command : Command) → IsFair begin → AreFair earlier → begun_rule device begin ≡ None
+pass_agree : (maker : Maker) (begin : Command) (earlier : List Command) (command : Command) → IsFair begin → AreFair earlier → begun_rule maker begin ≡ None
     → AreClear (map scope_in (option_to_list (pass_does begin earlier command))) → EachRow AgreeDoing (option_to_list (pass_does begin earlier command))
-pass_agree device BeginComputePass earlier command fair fairs e clear = compute_agree (settings earlier) command clear
-pass_agree device (BeginRenderPass begin) earlier command fair fairs e clear = render_does_agree device begin earlier command fair fairs e clear
-pass_agree device _ earlier command fair fairs e clear = tt
+pass_agree maker BeginComputePass earlier command fair fairs e clear = compute_agree (settings earlier) command clear
+pass_agree maker (BeginRenderPass begin) earlier command fair fairs e clear = render_does_agree maker begin earlier command fair fairs e clear
+pass_agree maker _ earlier command fair fairs e clear = tt
 
 -- a pass whose rules are met began with its rules met
-begun_first : (device : ℕ) (begin : Command) (earlier : List Command) → pass_rule device begin earlier ≡ None → begun_rule device begin ≡ None
-begun_first device begin [] e = e
-begun_first device begin (command ∷ earlier) e = begun_first device begin earlier (or_none (pass_rule device begin earlier) (rule_in device begin earlier command) e).0
+begun_first : (maker : Maker) (begin : Command) (earlier : List Command) → pass_rule maker begin earlier ≡ None → begun_rule maker begin ≡ None
+begun_first maker begin [] e = e
+begun_first maker begin (command ∷ earlier) e = begun_first maker begin earlier (or_none (pass_rule maker begin earlier) (rule_in maker begin earlier command) e).0
 
 abbrev pub AreFairKept : Kept → Type 0
 AreFairKept kept = EachKept IsFair kept
@@ -122,12 +123,12 @@ one_agrees : (done : Option Doing) → (AreClear (map scope_in (option_to_list d
 one_agrees None h = tt
 one_agrees (Some doing) h = ((λ clear. (h (clear, tt)).0), tt)
 
-fair_does : (device : ℕ) → Does device IsFair AgreesAt
-fair_does device = record {
-  on_encoder = λ depth command fair e. encoder_agree device depth command e;
+fair_does : (maker : Maker) → Does maker IsFair AgreesAt
+fair_does maker = record {
+  on_encoder = λ depth command fair e. encoder_agree maker depth command e;
   in_pass = λ number begin earlier command first fairs fair e.
       one_agrees (pass_does begin earlier command)
-      (pass_agree device begin earlier command first fairs (begun_first device begin earlier (or_none (pass_rule device begin earlier) (rule_in device begin earlier command) e).0));
+      (pass_agree maker begin earlier command first fairs (begun_first maker begin earlier (or_none (pass_rule maker begin earlier) (rule_in maker begin earlier command) e).0));
 }
 
 -- all of them, where all scopes are compatible
@@ -158,14 +159,14 @@ none_is None e = refl
 none_is (Some x) e = absurd (cc)
 
 pub recorded_are_once : RecordedAreOnce
-recorded_are_once place device (Some targets) commands fair e = tt
-recorded_are_once place device None commands fair e = by_rules (is_none (verdict device (reverse commands)) && is_none (open_pass (reverse commands))) refl e
+recorded_are_once place maker (Some targets) commands fair e = tt
+recorded_are_once place maker None commands fair e = by_rules (is_none (verdict maker (reverse commands)) && is_none (open_pass (reverse commands))) refl e
   where
-    by_rules : (b : Bool) → is_none (verdict device (reverse commands)) && is_none (open_pass (reverse commands)) ≡ b → first_clash (if b then usage_scopes (reverse commands) else []) ≡ None → EachRow IsOnceStep (map (placed place) (if b then deeds (reverse commands) else []))
+    by_rules : (b : Bool) → is_none (verdict maker (reverse commands)) && is_none (open_pass (reverse commands)) ≡ b → first_clash (if b then usage_scopes (reverse commands) else []) ≡ None → EachRow IsOnceStep (map (placed place) (if b then deeds (reverse commands) else []))
     by_rules false is e = tt
     by_rules true is e =
-        let parts : (is_none (verdict device (reverse commands)) ≡ true) × (is_none (open_pass (reverse commands)) ≡ true) = and_parts (is_none (verdict device (reverse commands))) (is_none (open_pass (reverse commands))) is in
+        let parts : (is_none (verdict maker (reverse commands)) ≡ true) × (is_none (open_pass (reverse commands)) ≡ true) = and_parts (is_none (verdict maker (reverse commands))) (is_none (open_pass (reverse commands))) is in
         placed_once place (doings (reverse commands))
         (all_agree (reverse commands)
-        (walked device IsFair AgreesAt (fair_does device) (reverse commands) (each_reverse commands fair) (none_is (verdict device (reverse commands)) parts.0) (none_is (open_pass (reverse commands)) parts.1))
+        (walked maker IsFair AgreesAt (fair_does maker) (reverse commands) (each_reverse commands fair) (none_is (verdict maker (reverse commands)) parts.0) (none_is (open_pass (reverse commands)) parts.1))
         (clear_from (usage_scopes (reverse commands)) e))

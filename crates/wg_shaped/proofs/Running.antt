@@ -64,10 +64,10 @@ event_once : (setup : Setup) (older : Past) (place : StepPlace) (event : Event) 
 unfolding finish_rule
 event_once setup older place (Finish encoder recording) run made =
     let rules : is_none (finish_rule setup older encoder recording) ≡ true = (and_parts (not (is_lost older)) (is_none (finish_rule setup older encoder recording)) made).1 in
-    let later = or_none (first_unmet (encoder_rules setup older _ encoder)) (option_or (Verdict recording.device recording.targets recording.commands) (first_unmet (recording_rules setup older encoder.number recording))) rules in
-    let last = or_none (Verdict recording.device recording.targets recording.commands) (first_unmet (recording_rules setup older encoder.number recording)) later.1 in
+    let later = or_none (first_unmet (encoder_rules setup older _ encoder)) (option_or (Verdict recording.maker recording.targets recording.commands) (first_unmet (recording_rules setup older encoder.number recording))) rules in
+    let last = or_none (Verdict recording.maker recording.targets recording.commands) (first_unmet (recording_rules setup older encoder.number recording)) later.1 in
     let met : AreMet (recording_rules setup older encoder.number recording) = all_met (recording_rules setup older encoder.number recording) last.1 in
-    recorded_are_once place recording.device recording.targets recording.commands (accepted_fair setup older encoder.number recording.commands run met.1.1.0) (none_is (first_clash (ScopesOf recording.device recording.targets recording.commands)) met.1.1.1.0)
+    recorded_are_once place recording.maker recording.targets recording.commands (accepted_fair setup older encoder.number recording.commands run met.1.1.0) (none_is (first_clash (ScopesOf recording.maker recording.targets recording.commands)) met.1.1.1.0)
 event_once setup older place _ run made = tt
 
 made_once : (setup : Setup) (past : Past) (place : StepPlace) (n : ℕ) → IsRun setup past → is_valid past n ≡ true

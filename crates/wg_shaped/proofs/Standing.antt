@@ -1,5 +1,5 @@
 -- Commands that may stand on a bundle encoder touch cells in one of the four ways of use, and of a part of a texture some cell.
-use Rattle.std.proofs.Common.{◌≡◌, ℕ, ◌/◌, ◌^◌, max, Bool, true, List, [], ◌∷◌, map, reverse, Some, None, is_none, refl, ap, sym, subst, ◌∙◌, arith, nat_lt, if◌then◌else◌, true≢false}
+use Rattle.std.proofs.Common.{◌≡◌, ℕ, ◌/◌, ◌^◌, max, Bool, true, List, [], ◌∷◌, map, reverse, Some, None, is_none, option_map, refl, ap, sym, subst, ◌∙◌, arith, nat_lt, if◌then◌else◌, true≢false}
 use Rattle.std.specs.List.{flat_map}
 use Rattle.std.proofs.lemmas.Bool.{lt-ltb}
 use Rattle.std.proofs.lemmas.List.{reverse-append}
@@ -26,6 +26,7 @@ use Rattle.wg_model.specs.Textures.{extent_at, extent}
 use Rattle.wg_model.specs.Subresources.{view_runs, texture_cells, run_cells}
 use Rattle.wg_model.specs.Touches.{Touch, access_of}
 use Rattle.wg_model.specs.Bound.{Place, set_places, kind_touch, resource_cells, place_touches}
+use Rattle.wg_model.specs.Settings.{bound_with}
 use Rattle.wg_model.specs.Bundles.{bundle_how, bundle_touch, bundle_touches}
 use Rattle.wg_model.specs.Render.{bundle_set, command_touches, bound_group_touches, touches_over}
 use Rattle.wg_model.specs.Walk.{bundled}
@@ -89,15 +90,16 @@ places_bundled (place ∷ places) =
 -- So it is with each command that may stand there.
 command_bundled : (command : Command) → fits command Bundle ≡ true → EachRow IsBundled (command_touches None command)
 command_bundled (SetBindGroup index group offsets) e =
-    each_joined IsBundled (bound_group_touches (Some (index, record { group = group; offsets = offsets }))) [] (places_bundled (set_places (Some (record { group = group; offsets = offsets })))) tt
-command_bundled (SetVertexBuffer slot buffer offset size) e = (record { used = Input; so = refl; told = refl }, tt)
+    each_joined IsBundled (bound_group_touches (Some (index, option_map (bound_with offsets) group))) [] (places_bundled (set_places (option_map (bound_with offsets) group))) tt
+command_bundled (SetVertexBuffer slot None offset size) e = tt
+command_bundled (SetVertexBuffer slot (Some buffer) offset size) e = (record { used = Input; so = refl; told = refl }, tt)
 command_bundled (SetIndexBuffer buffer format offset size) e = (record { used = Input; so = refl; told = refl }, tt)
 command_bundled (DrawIndirect buffer offset) e = (record { used = Input; so = refl; told = refl }, tt)
 command_bundled (DrawIndexedIndirect buffer offset) e = (record { used = Input; so = refl; told = refl }, tt)
 command_bundled (ExecuteBundles bundles) e = absurd (true≢false (sym e))
 command_bundled _ e = tt
 
-abbrev AllFit : List Command → Type 0
+abbrev pub AllFit : List Command → Type 0
 AllFit commands = EachRow (λ (command : Command). fits command Bundle ≡ true) commands
 
 over_bundled : (earlier : List Command) → AllFit earlier → EachRow IsBundled (touches_over None [] earlier)
@@ -120,7 +122,7 @@ all_fit commands stand =
 
 -- A bundle is known by what its commands touch.
 pub bundles_are_known : BundlesAreKnown
-bundles_are_known device targets commands stand none =
+bundles_are_known maker targets commands stand none =
     let touches : List Touch = (bundle_set targets (bundled commands)).touches in
     subst (λ (b : Bool). AreAlike (map bundle_touch (if b then bundle_touches touches else [])) touches) (sym (ap is_none none))
     (touches_are_known touches (over_bundled (bundled commands) (all_fit commands stand)))

@@ -1,5 +1,5 @@
 -- All that passes touch is told by how it is used.
-use Rattle.std.proofs.Common.{◌≡◌, ℕ, Bool, true, false, List, [], ◌∷◌, ◌++◌, map, Option, Some, None, refl, if◌then◌else◌}
+use Rattle.std.proofs.Common.{◌≡◌, ℕ, Bool, true, false, List, [], ◌∷◌, ◌++◌, map, Option, Some, None, option_map, refl, if◌then◌else◌}
 use Rattle.std.specs.List.{flat_map}
 use Rattle.wg_types.specs.Commands.{Command}
 use Rattle.wg_types.specs.declared.commands.CommandOf.TheVariants.{SetBindGroup, SetVertexBuffer, SetIndexBuffer, DrawIndirect, DrawIndexedIndirect, BeginOcclusionQuery, BeginOcclusionQuery, ExecuteBundles}
@@ -17,7 +17,7 @@ use Rattle.wg_types.specs.declared.commands.BoundGroup.{BoundGroup}
 use Rattle.wg_rows.specs.Rows.{EachRow}
 use Rattle.wg_model.specs.Bound.{Place, kind_touch, resource_cells, place_touches, layouts_places, bound_touches}
 use Rattle.wg_model.specs.Bound.{set_places}
-use Rattle.wg_model.specs.Settings.{Settings, layouts_set, indirect_touch}
+use Rattle.wg_model.specs.Settings.{Settings, bound_with, layouts_set, indirect_touch}
 use Rattle.wg_model.specs.Compute.{dispatch_touches}
 use Rattle.wg_model.specs.Attachments.{RenderBegin, ColorTarget, DepthTarget, handle_cells, color_cells, attach_kind, attached, attachment_usage, resolve_touches, color_touches, aspect_how, depth_how, cells_aspect, depth_touch, depth_touches, targets_touches}
 use Rattle.wg_model.specs.Render.{command_touches, bound_group_touches}
@@ -189,8 +189,9 @@ query_plain None index = tt
 query_plain (Some set) index = ((WritesQueries refl refl refl, refl), tt)
 
 pub command_plain : (queries : Option (ℕ × ℕ)) (command : Command) → IsFair command → ArePlain (command_touches queries command)
-command_plain queries (SetBindGroup index group offsets) h = plain_joined (bound_group_touches (Some (index, record { group = group; offsets = offsets }))) [] (places_plain (set_places (Some (record { group = group; offsets = offsets })))) tt
-command_plain queries (SetVertexBuffer slot buffer offset size) h = (input_plain buffer.reference.number offset (offset + size_or_rest buffer offset size), tt)
+command_plain queries (SetBindGroup index group offsets) h = plain_joined (bound_group_touches (Some (index, option_map (bound_with offsets) group))) [] (places_plain (set_places (option_map (bound_with offsets) group))) tt
+command_plain queries (SetVertexBuffer slot None offset size) h = tt
+command_plain queries (SetVertexBuffer slot (Some buffer) offset size) h = (input_plain buffer.reference.number offset (offset + size_or_rest buffer offset size), tt)
 command_plain queries (SetIndexBuffer buffer format offset size) h = (input_plain buffer.reference.number offset (offset + size_or_rest buffer offset size), tt)
 command_plain queries (DrawIndirect buffer offset) h = (input_plain buffer.reference.number offset (offset + 16), tt)
 command_plain queries (DrawIndexedIndirect buffer offset) h = (input_plain buffer.reference.number offset (offset + 20), tt)

@@ -1,6 +1,7 @@
 -- No step of a queue write, of a host access or of recorded commands has an empty row or an empty set.
-use Rattle.std.proofs.Common.{ℕ, ◌*◌, Bool, true, false, ◌==◌, ◌&&◌, List, [], ◌∷◌, ◌++◌, map, Option, Some, None, is_none, option_to_list, lit<, reverse, if◌then◌else◌}
+use Rattle.std.proofs.Common.{ℕ, ◌*◌, Bool, true, false, ◌==◌, ◌&&◌, List, [], ◌∷◌, ◌++◌, map, Option, Some, None, is_none, option_to_list, option_map, lit<, reverse, if◌then◌else◌}
 use Rattle.std.specs.List.{flat_map}
+use Rattle.wg_types.specs.declared.limits.Maker.{Maker}
 use Rattle.wg_types.specs.declared.writes.QueueWrite.TheVariants.{Buffer as BufferWrite, Texture as TextureWrite}
 use Rattle.wg_trace.specs.declared.steps.StepName.TheVariants as name
 use Rattle.wg_types.specs.declared.commands.On.{On}
@@ -30,7 +31,7 @@ use Rattle.wg_types.specs.declared.commands.BoundGroup.{BoundGroup}
 use Rattle.wg_rows.specs.Rows.{EachRow}
 use Rattle.wg_model.specs.Bound.{Place, kind_touch, resource_cells, place_touches, layouts_places, bound_touches}
 use Rattle.wg_model.specs.Bound.{set_places}
-use Rattle.wg_model.specs.Settings.{Settings, settings, layouts_set, indirect_touch}
+use Rattle.wg_model.specs.Settings.{Settings, settings, bound_with, layouts_set, indirect_touch}
 use Rattle.wg_model.specs.Compute.{compute_does, dispatch_touches}
 use Rattle.wg_model.specs.Attachments.{RenderBegin, ColorTarget, DepthTarget, handle_cells, color_cells, attach_kind, attached, attachment_usage, resolve_touches, color_touches, aspect_how, depth_how, cells_aspect, depth_touch, depth_touches, targets_touches}
 use Rattle.wg_model.specs.Render.{RenderSet, render_set, touches_over, command_touches, bound_group_touches, render_does, render_does_by}
@@ -202,8 +203,9 @@ query_sets None index = tt
 query_sets (Some set) index = ((lit< tt, lit< tt), tt)
 
 command_sets : (queries : Option (ℕ × ℕ)) (command : Command) → AreSets (command_touches queries command)
-command_sets queries (SetBindGroup index group offsets) = joined_sets (bound_group_touches (Some (index, record { group = group; offsets = offsets }))) [] (places_sets (set_places (Some (record { group = group; offsets = offsets })))) tt
-command_sets queries (SetVertexBuffer slot buffer offset size) = ((lit< tt, lit< tt), tt)
+command_sets queries (SetBindGroup index group offsets) = joined_sets (bound_group_touches (Some (index, option_map (bound_with offsets) group))) [] (places_sets (set_places (option_map (bound_with offsets) group))) tt
+command_sets queries (SetVertexBuffer slot None offset size) = tt
+command_sets queries (SetVertexBuffer slot (Some buffer) offset size) = ((lit< tt, lit< tt), tt)
 command_sets queries (SetIndexBuffer buffer format offset size) = ((lit< tt, lit< tt), tt)
 command_sets queries (DrawIndirect buffer offset) = ((lit< tt, lit< tt), tt)
 command_sets queries (DrawIndexedIndirect buffer offset) = ((lit< tt, lit< tt), tt)
@@ -249,9 +251,9 @@ placed_filled : (place : StepPlace) (done : List Doing) → AreSetDoings done �
 placed_filled place [] h = tt
 placed_filled place (doing ∷ done) h = (step_filled place doing h.0, placed_filled place done h.1)
 
-pub recorded_filled : (place : StepPlace) (device : ℕ) (targets : Option TargetInfo) (commands : List (On × Command)) → EachRow IsFilledStep (map (placed place) (DeedsOf device targets commands))
-recorded_filled place device (Some targets) commands = tt
-recorded_filled place device None commands = by_rules (is_none (verdict device (reverse commands)) && is_none (open_pass (reverse commands)))
+pub recorded_filled : (place : StepPlace) (maker : Maker) (targets : Option TargetInfo) (commands : List (On × Command)) → EachRow IsFilledStep (map (placed place) (DeedsOf maker targets commands))
+recorded_filled place maker (Some targets) commands = tt
+recorded_filled place maker None commands = by_rules (is_none (verdict maker (reverse commands)) && is_none (open_pass (reverse commands)))
   where
     by_rules : (b : Bool) → EachRow IsFilledStep (map (placed place) (if b then deeds (reverse commands) else []))
     by_rules true = placed_filled place (doings (reverse commands)) (doings_sets (reverse commands))

@@ -3,6 +3,7 @@ use Rattle.std.specs.Prelude.{option_to_list, reverse}
 use Rattle.std.specs.Option.{option_or}
 use Rattle.std.proofs.Common.{◌≡◌, ℕ, List, [], ◌∷◌, Bool, true, false, Option, Some, None, refl, sym, subst, if◌then◌else◌}
 use Rattle.std.proofs.lemmas.List.{reverse-append}
+use Rattle.wg_types.specs.declared.limits.Maker.{Maker}
 use Rattle.wg_types.specs.Commands.{Command, is_begin, is_end}
 use Rattle.wg_types.specs.declared.commands.On.{On}
 use Rattle.wg_types.specs.declared.commands.On.TheVariants.{Encoder, Pass}
@@ -25,9 +26,9 @@ EachDone D [] = Unit {0}
 EachDone D (kept ∷ older) = EachDone D older × EachRow (D kept.0) (option_to_list (does_at (open_pass older) kept.0 kept.1))
 
 -- What a command does whose rules are met: one on an unlocked encoder, and one of a pass.
-pub record Does (device : ℕ) (C : Command → Type 0) (D : On → Doing → Type 0) : Type 0 where
-  pub on_encoder : (depth : ℕ) (command : Command) → C command → encoder_gives device None depth command ≡ None → EachRow (D Encoder) (option_to_list (encoder_does command))
-  pub in_pass : (number : ℕ) (begin : Command) (earlier : List Command) (command : Command) → C begin → EachRow C earlier → C command → pass_rule device begin (command ∷ earlier) ≡ None
+pub record Does (maker : Maker) (C : Command → Type 0) (D : On → Doing → Type 0) : Type 0 where
+  pub on_encoder : (depth : ℕ) (command : Command) → C command → encoder_gives maker None depth command ≡ None → EachRow (D Encoder) (option_to_list (encoder_does command))
+  pub in_pass : (number : ℕ) (begin : Command) (earlier : List Command) (command : Command) → C begin → EachRow C earlier → C command → pass_rule maker begin (command ∷ earlier) ≡ None
       → EachRow (D (Pass number)) (option_to_list (pass_does begin earlier command))
 
 -- the open pass is of such commands, and its rules are met
@@ -35,9 +36,9 @@ abbrev HasPass : (Command → Type 0) → Option PassSoFar → Type 0
 HasPass C None = Unit {0}
 HasPass C (Some pass) = C pass.begin × EachRow C pass.earlier
 
-abbrev IsMetPass : ℕ → Option PassSoFar → Type 0
-IsMetPass device None = Unit {0}
-IsMetPass device (Some pass) = pass_rule device pass.begin pass.earlier ≡ None
+abbrev IsMetPass : Maker → Option PassSoFar → Type 0
+IsMetPass maker None = Unit {0}
+IsMetPass maker (Some pass) = pass_rule maker pass.begin pass.earlier ≡ None
 
 begun_has : (C : Command → Type 0) (opened : Option PassSoFar) (number : ℕ) (command : Command) → C command → HasPass C opened → HasPass C (pass_begun opened number command)
 begun_has C (Some pass) number command own h = h
@@ -68,47 +69,47 @@ open_has C [] each = tt
 open_has C (kept ∷ older) each = one_has C (open_pass older) (begins older) kept.0 kept.1 each.0 (open_has C older each.1)
 
 -- One more command: what the pass before it has, and what it does.
-abbrev Holds : ℕ → (Doing → Type 0) → Option PassSoFar → Option Doing → Type 0
-Holds device D opened done = IsMetPass device opened × EachRow D (option_to_list done)
+abbrev Holds : Maker → (Doing → Type 0) → Option PassSoFar → Option Doing → Type 0
+Holds maker D opened done = IsMetPass maker opened × EachRow D (option_to_list done)
 
-within_holds : (device : ℕ) (C : Command → Type 0) (D : On → Doing → Type 0) → Does device C D → (number : ℕ) (opened : Option PassSoFar) (command : Command) → C command → HasPass C opened → handed device opened command ≡ None
-    → IsMetPass device (pass_after opened command) → Holds device (D (Pass number)) opened (does_within opened command)
-within_holds device C D does number None command own has e met = (tt, tt)
-within_holds device C D does number (Some pass) command own has e met =
-    let whole : pass_rule device pass.begin (command ∷ pass.earlier) ≡ None = by_end (is_end command) e met in
-    ((or_none (pass_rule device pass.begin pass.earlier) (rule_in device pass.begin pass.earlier command) whole).0, does.in_pass number pass.begin pass.earlier command has.0 has.1 own whole)
+within_holds : (maker : Maker) (C : Command → Type 0) (D : On → Doing → Type 0) → Does maker C D → (number : ℕ) (opened : Option PassSoFar) (command : Command) → C command → HasPass C opened → handed maker opened command ≡ None
+    → IsMetPass maker (pass_after opened command) → Holds maker (D (Pass number)) opened (does_within opened command)
+within_holds maker C D does number None command own has e met = (tt, tt)
+within_holds maker C D does number (Some pass) command own has e met =
+    let whole : pass_rule maker pass.begin (command ∷ pass.earlier) ≡ None = by_end (is_end command) e met in
+    ((or_none (pass_rule maker pass.begin pass.earlier) (rule_in maker pass.begin pass.earlier command) whole).0, does.in_pass number pass.begin pass.earlier command has.0 has.1 own whole)
   where
-    by_end : (b : Bool) → (if b then pass_rule device pass.begin (command ∷ pass.earlier) else None) ≡ None → IsMetPass device (if b then None else Some (record pass { earlier = command ∷ pass.earlier })) → pass_rule device pass.begin (command ∷ pass.earlier) ≡ None
+    by_end : (b : Bool) → (if b then pass_rule maker pass.begin (command ∷ pass.earlier) else None) ≡ None → IsMetPass maker (if b then None else Some (record pass { earlier = command ∷ pass.earlier })) → pass_rule maker pass.begin (command ∷ pass.earlier) ≡ None
     by_end true e met = e
     by_end false e met = met
 
-encoder_holds : (device : ℕ) (C : Command → Type 0) (D : On → Doing → Type 0) → Does device C D → (depth : ℕ) (opened : Option PassSoFar) (command : Command) → C command → encoder_gives device opened depth command ≡ None
-    → Holds device (D Encoder) opened (does_at opened Encoder command)
-encoder_holds device C D does depth (Some pass) command own e = absurd (cc)
-encoder_holds device C D does depth None command own e = (tt, does.on_encoder depth command own e)
+encoder_holds : (maker : Maker) (C : Command → Type 0) (D : On → Doing → Type 0) → Does maker C D → (depth : ℕ) (opened : Option PassSoFar) (command : Command) → C command → encoder_gives maker opened depth command ≡ None
+    → Holds maker (D Encoder) opened (does_at opened Encoder command)
+encoder_holds maker C D does depth (Some pass) command own e = absurd (cc)
+encoder_holds maker C D does depth None command own e = (tt, does.on_encoder depth command own e)
 
-at_holds : (device : ℕ) (C : Command → Type 0) (D : On → Doing → Type 0) → Does device C D → (depth number : ℕ) (opened : Option PassSoFar) (on : On) (command : Command) → C command → HasPass C opened
-    → given device opened depth on command ≡ None → IsMetPass device (open_after opened number on command) → Holds device (D on) opened (does_at opened on command)
-at_holds device C D does depth number opened Encoder command own has e met = encoder_holds device C D does depth opened command own e
-at_holds device C D does depth number opened (Pass pass) command own has e met = by_open (is_open opened pass) e met
+at_holds : (maker : Maker) (C : Command → Type 0) (D : On → Doing → Type 0) → Does maker C D → (depth number : ℕ) (opened : Option PassSoFar) (on : On) (command : Command) → C command → HasPass C opened
+    → given maker opened depth on command ≡ None → IsMetPass maker (open_after opened number on command) → Holds maker (D on) opened (does_at opened on command)
+at_holds maker C D does depth number opened Encoder command own has e met = encoder_holds maker C D does depth opened command own e
+at_holds maker C D does depth number opened (Pass pass) command own has e met = by_open (is_open opened pass) e met
   where
-    by_open : (b : Bool) → (if b then handed device opened command else None) ≡ None → IsMetPass device (if b then pass_after opened command else opened) → Holds device (D (Pass pass)) opened (if b then does_within opened command else None)
-    by_open true e met = within_holds device C D does pass opened command own has e met
+    by_open : (b : Bool) → (if b then handed maker opened command else None) ≡ None → IsMetPass maker (if b then pass_after opened command else opened) → Holds maker (D (Pass pass)) opened (if b then does_within opened command else None)
+    by_open true e met = within_holds maker C D does pass opened command own has e met
     by_open false e met = (met, tt)
 
-all_hold : (device : ℕ) (C : Command → Type 0) (D : On → Doing → Type 0) → Does device C D → (kept : Kept) → EachKept C kept → verdict device kept ≡ None → IsMetPass device (open_pass kept) → EachDone D kept
-all_hold device C D does [] each e met = tt
-all_hold device C D does (kept ∷ older) each e met =
-    let rules : (verdict device older ≡ None) × (given device (open_pass older) (encoder_depth older) kept.0 kept.1 ≡ None) = or_none (verdict device older) (given device (open_pass older) (encoder_depth older) kept.0 kept.1) e in
-    let one : Holds device (D kept.0) (open_pass older) (does_at (open_pass older) kept.0 kept.1) = at_holds device C D does (encoder_depth older) (begins older) (open_pass older) kept.0 kept.1 each.0 (open_has C older each.1) rules.1 met in
-    (all_hold device C D does older each.1 rules.0 one.0, one.1)
+all_hold : (maker : Maker) (C : Command → Type 0) (D : On → Doing → Type 0) → Does maker C D → (kept : Kept) → EachKept C kept → verdict maker kept ≡ None → IsMetPass maker (open_pass kept) → EachDone D kept
+all_hold maker C D does [] each e met = tt
+all_hold maker C D does (kept ∷ older) each e met =
+    let rules : (verdict maker older ≡ None) × (given maker (open_pass older) (encoder_depth older) kept.0 kept.1 ≡ None) = or_none (verdict maker older) (given maker (open_pass older) (encoder_depth older) kept.0 kept.1) e in
+    let one : Holds maker (D kept.0) (open_pass older) (does_at (open_pass older) kept.0 kept.1) = at_holds maker C D does (encoder_depth older) (begins older) (open_pass older) kept.0 kept.1 each.0 (open_has C older each.1) rules.1 met in
+    (all_hold maker C D does older each.1 rules.0 one.0, one.1)
 
-no_pass : (device : ℕ) (o : Option PassSoFar) → o ≡ None → IsMetPass device o
-no_pass device o e = subst (IsMetPass device) (sym e) tt
+no_pass : (maker : Maker) (o : Option PassSoFar) → o ≡ None → IsMetPass maker o
+no_pass maker o e = subst (IsMetPass maker) (sym e) tt
 
 -- It holds where the recording has no verdict and no open pass.
-pub walked : (device : ℕ) (C : Command → Type 0) (D : On → Doing → Type 0) → Does device C D → (kept : Kept) → EachKept C kept → verdict device kept ≡ None → open_pass kept ≡ None → EachDone D kept
-walked device C D does kept each e none = all_hold device C D does kept each e (no_pass device (open_pass kept) none)
+pub walked : (maker : Maker) (C : Command → Type 0) (D : On → Doing → Type 0) → Does maker C D → (kept : Kept) → EachKept C kept → verdict maker kept ≡ None → open_pass kept ≡ None → EachDone D kept
+walked maker C D does kept each e none = all_hold maker C D does kept each e (no_pass maker (open_pass kept) none)
 
 pub each_done : (D : Doing → Type 0) (kept : Kept) → EachDone (λ on doing. D doing) kept → EachRow D (doings kept)
 each_done D [] h = tt

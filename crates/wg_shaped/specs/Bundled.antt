@@ -1,6 +1,7 @@
 -- A bundle is known by what its commands touch, and touches what they name.
-use Rattle.std.specs.Prelude.{◌≡◌, ℕ, nat_lt, Bool, true, List, map, reverse, Option, Some, None, is_some}
+use Rattle.std.specs.Prelude.{◌≡◌, ℕ, nat_lt, Bool, true, List, map, reverse, Option, Some, None, is_some, option_and_then}
 use Rattle.std.specs.List.{list_any}
+use Rattle.wg_types.specs.declared.limits.Maker.{Maker}
 use Rattle.wg_types.specs.Bindings.{entry_of}
 use Rattle.wg_types.specs.Commands.{Command, fits}
 use Rattle.wg_types.specs.declared.bindings.BoundEntry.{BoundEntry}
@@ -70,10 +71,10 @@ MayStand commands = EachRow (λ (kept : On × Command). fits kept.1 Bundle ≡ t
 -- theirs is unmet.
 abbrev pub BundlesAreKnown : Type 0
 BundlesAreKnown =
-    (device : ℕ) (targets : TargetInfo) (commands : List (On × Command))
+    (made_by : Maker) (targets : TargetInfo) (commands : List (On × Command))
     → MayStand commands
-    → Verdict device (Some targets) commands ≡ None
-    → AreAlike (known_touches (Some (bundle_of device (Some targets) commands))) (bundle_set targets (bundled commands)).touches
+    → Verdict made_by (Some targets) commands ≡ None
+    → AreAlike (known_touches (Some (bundle_of made_by (Some targets) commands))) (bundle_set targets (bundled commands)).touches
 
 -- Some cell of a part is accessed.
 pub record HasAccessedCell (p : Part) (touches : List Touch) : Type 0 where
@@ -107,7 +108,7 @@ IsWholeGroup (Some group) = EachRow (IsWholeEntry group.layout_info.entries) gro
 
 -- A command sets no group that is not whole.
 abbrev pub IsWholeCommand : Command → Type 0
-IsWholeCommand (SetBindGroup index group offsets) = IsWholeGroup (known_group group)
+IsWholeCommand (SetBindGroup index group offsets) = IsWholeGroup (option_and_then known_group group)
 IsWholeCommand _ = Unit {0}
 
 -- A test finds one of the buffers that a bundle is known to touch exactly where it finds one that the commands name, themselves or
@@ -121,18 +122,18 @@ pub record TouchesWhatIsNamed (bundle : BundleInfo) (commands : List (On × Comm
 -- Each bundle touches what its commands name, if no rule of theirs is unmet and the groups that they set are whole.
 abbrev pub BundlesTouchWhatTheyName : Type 0
 BundlesTouchWhatTheyName =
-    (device : ℕ) (targets : TargetInfo) (commands : List (On × Command))
+    (made_by : Maker) (targets : TargetInfo) (commands : List (On × Command))
     → MayStand commands
     → EachRow (λ (kept : On × Command). IsWholeCommand kept.1) commands
-    → Verdict device (Some targets) commands ≡ None
-    → TouchesWhatIsNamed (bundle_of device (Some targets) commands) commands
+    → Verdict made_by (Some targets) commands ≡ None
+    → TouchesWhatIsNamed (bundle_of made_by (Some targets) commands) commands
 
 -- Each valid bundle of a history whose replies are the right ones touches what its commands name, since its handles are genuine.
 abbrev pub HistoryTouchesWhatItNames : Type 0
 HistoryTouchesWhatItNames =
-    (setup : Setup) (history : List Entry) (bundle : ℕ) (encoder : ObjRef) (device : ℕ) (targets : TargetInfo) (commands : List (On × Command))
+    (setup : Setup) (history : List Entry) (bundle : ℕ) (encoder : ObjRef) (made_by : Maker) (targets : TargetInfo) (commands : List (On × Command))
     → Run setup history
     → is_valid (reverse history) bundle ≡ true
-    → event_at (reverse history) bundle ≡ Some (FinishBundle encoder (record { device = device; targets = Some targets; commands = commands }))
+    → event_at (reverse history) bundle ≡ Some (FinishBundle encoder (record { maker = made_by; targets = Some targets; commands = commands }))
     → MayStand commands
-    → TouchesWhatIsNamed (bundle_of device (Some targets) commands) commands
+    → TouchesWhatIsNamed (bundle_of made_by (Some targets) commands) commands

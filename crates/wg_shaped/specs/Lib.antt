@@ -2,3 +2,4 @@ pub mod Reports
 pub mod Shaped
 pub mod Once
 pub mod Bundled
+pub mod Nulls

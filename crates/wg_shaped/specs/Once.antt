@@ -1,5 +1,6 @@
 -- Steps that give no cell twice.
-use Rattle.std.specs.Prelude.{◌≡◌, ℕ, true, List, Option, Some, None}
+use Rattle.std.specs.Prelude.{◌≡◌, true, List, Option, Some, None}
+use Rattle.wg_types.specs.declared.limits.Maker.{Maker}
 use Rattle.wg_types.specs.Commands.{Command}
 use Rattle.wg_types.specs.declared.commands.CommandOf.TheVariants.{BeginRenderPass, ExecuteBundles}
 use Rattle.wg_types.specs.declared.commands.On.{On}
@@ -44,10 +45,10 @@ IsFair _ = Unit {0}
 -- The steps of a recording whose usage scopes are compatible give no cell twice.
 abbrev pub RecordedAreOnce : Type 0
 RecordedAreOnce =
-    (place : StepPlace) (device : ℕ) (targets : Option TargetInfo) (commands : List (On × Command))
+    (place : StepPlace) (maker : Maker) (targets : Option TargetInfo) (commands : List (On × Command))
     → EachRow (λ kept. IsFair kept.1) commands
-    → first_clash (ScopesOf device targets commands) ≡ None
-    → EachRow IsOnceStep (StepsOf place device targets commands)
+    → first_clash (ScopesOf maker targets commands) ≡ None
+    → EachRow IsOnceStep (StepsOf place maker targets commands)
 
 -- No step of a run gives a cell twice: a recording is accepted only if its scopes are compatible, and what its handles tell is
 -- as it was made.

@@ -2,6 +2,7 @@
 #![tactic(auto)]
 
 ghost use Rattle.wg_shaped.specs.Bundled.{BundlesAreKnown, BundlesTouchWhatTheyName, HistoryTouchesWhatItNames, TexturesHaveCells, TouchesAreKnown};
+ghost use Rattle.wg_shaped.specs.Nulls.{BundlesDrawTheirDraws, ExecutedBundlesAdd, HistoryDrawsItsDraws, NullLayoutsAreBare, NullUnsetsGroup, NullUnsetsVertex, OnlyGivenAreReferred};
 ghost use Rattle.wg_shaped.specs.Once.{HistoryIsOnce, RecordedAreOnce};
 ghost use Rattle.wg_shaped.specs.Shaped.{HistoryIsShaped, HistoryReadsBack, StepsAreFilled};
 
@@ -32,4 +33,26 @@ pub fn bundles_are_known()
     ensures textures { TexturesHaveCells }
     ensures named { BundlesTouchWhatTheyName }
     ensures history { HistoryTouchesWhatItNames }
+{}
+
+/// Null as a bind group or as a vertex buffer unsets what is set at its index or in its slot, and nothing else. What was set
+/// before stays among what the pass or the bundle touches.
+pub fn nulls_unset()
+    ensures groups { NullUnsetsGroup }
+    ensures buffers { NullUnsetsVertex }
+{}
+
+/// A null layout of a pipeline layout is one of no entry, which is exclusive to no pipeline: any bind group may be set at its
+/// index, or none, and nothing that is bound there is touched. The pipeline layout refers to no object for it.
+pub fn null_layouts()
+    ensures bare { NullLayoutsAreBare }
+    ensures referred { OnlyGivenAreReferred }
+{}
+
+/// A bundle draws as often as it has commands that draw, as each valid one does of a history whose replies are the right ones,
+/// and a pass that executes it draws as often more.
+pub fn bundles_draw()
+    ensures own { BundlesDrawTheirDraws }
+    ensures history { HistoryDrawsItsDraws }
+    ensures executed { ExecutedBundlesAdd }
 {}

@@ -84,9 +84,9 @@ given_small index bound small met = by_valid bound.group.valid refl met
     by_valid false e met = tt
 
 -- what is set, wherever it is
-abbrev pub IsGivenSmall : Option (ℕ × BoundGroup) → Type 0
+abbrev pub IsGivenSmall : Option (ℕ × Option BoundGroup) → Type 0
 IsGivenSmall None = Unit {0}
-IsGivenSmall (Some given) = AreSmallPlaces (set_places (Some given.1))
+IsGivenSmall (Some given) = AreSmallPlaces (set_places given.1)
 
 abbrev pub AreSetSmall : List Command → Type 0
 AreSetSmall earlier = (at : ℕ) → AreSmallPlaces (set_places (group_set earlier at))
@@ -94,11 +94,11 @@ AreSetSmall earlier = (at : ℕ) → AreSmallPlaces (set_places (group_set earli
 pub more_set : (command : Command) (earlier : List Command) → AreSetSmall earlier → IsGivenSmall (group_given command) → AreSetSmall (command ∷ earlier)
 more_set command earlier before given at = by_unset (unsets command) (group_given command) given
   where
-    by_slot : (given : ℕ × BoundGroup) → AreSmallPlaces (set_places (Some given.1)) → (b : Bool) → AreSmallPlaces (set_places (if b then Some given.1 else group_set earlier at))
+    by_slot : (given : ℕ × Option BoundGroup) → AreSmallPlaces (set_places given.1) → (b : Bool) → AreSmallPlaces (set_places (if b then given.1 else group_set earlier at))
     by_slot given h true = h
     by_slot given h false = before at
 
-    by_unset : (b : Bool) (o : Option (ℕ × BoundGroup)) → IsGivenSmall o → AreSmallPlaces (set_places (if b then None else slot_after o at (group_set earlier at)))
+    by_unset : (b : Bool) (o : Option (ℕ × Option BoundGroup)) → IsGivenSmall o → AreSmallPlaces (set_places (if b then None else slot_after o at (group_set earlier at)))
     by_unset true o h = tt
     by_unset false None h = before at
     by_unset false (Some given) h = by_slot given h (given.0 == at)

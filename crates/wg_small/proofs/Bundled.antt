@@ -1,6 +1,7 @@
 -- What is known of the touches of a bundle is small.
 use Rattle.std.specs.Prelude.{filter, is_none, reverse}
 use Rattle.std.proofs.Common.{◌≡◌, ℕ, List, [], ◌∷◌, ◌++◌, map, Bool, true, false, Option, Some, None, cond, refl, arith, if◌then◌else◌, true≢false, sym}
+use Rattle.wg_types.specs.declared.limits.Maker.{Maker}
 use Rattle.wg_types.specs.Commands.{Command}
 use Rattle.wg_types.specs.declared.bundles.BundleTouch.{BundleTouch}
 use Rattle.wg_types.specs.declared.bundles.BundleUse.{BundleUse}
@@ -89,12 +90,12 @@ pub none_is : {A : Type 0} (o : Option A) → is_none o ≡ true → o ≡ None
 none_is None e = refl
 none_is (Some x) e = absurd (true≢false (sym e))
 
-pub bundle_of_small : (device : ℕ) (targets : Option TargetInfo) (commands : List (On × Command)) → EachKept IsSmallCommand commands → AreSmallTouched (bundle_of device targets commands).touches
-bundle_of_small device None commands small = tt
-bundle_of_small device (Some targets) commands small = by_verdict (is_none (bundle_verdict device targets (bundled commands))) refl
+pub bundle_of_small : (maker : Maker) (targets : Option TargetInfo) (commands : List (On × Command)) → EachKept IsSmallCommand commands → AreSmallTouched (bundle_of maker targets commands).touches
+bundle_of_small maker None commands small = tt
+bundle_of_small maker (Some targets) commands small = by_verdict (is_none (bundle_verdict maker targets (bundled commands))) refl
   where
-    by_verdict : (b : Bool) → is_none (bundle_verdict device targets (bundled commands)) ≡ b → AreSmallTouched (if b then bundle_touches (bundle_set targets (bundled commands)).touches else [])
+    by_verdict : (b : Bool) → is_none (bundle_verdict maker targets (bundled commands)) ≡ b → AreSmallTouched (if b then bundle_touches (bundle_set targets (bundled commands)).touches else [])
     by_verdict true e =
         touched (touches_over None [] (bundled commands))
-        (bundle_over_small device targets (bundled commands) (commands_in (reverse commands) (kept_reverse IsSmallCommand commands small)) (none_is (bundle_verdict device targets (bundled commands)) e))
+        (bundle_over_small maker targets (bundled commands) (commands_in (reverse commands) (kept_reverse IsSmallCommand commands small)) (none_is (bundle_verdict maker targets (bundled commands)) e))
     by_verdict false e = tt

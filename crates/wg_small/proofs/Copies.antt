@@ -2,6 +2,7 @@
 use Rattle.std.specs.Option.{option_to_list, option_map_or}
 use Rattle.std.proofs.Common.{◌≡◌, ℕ, ◌+◌, ◌*◌, ◌≤◌, ◌==◌, List, Bool, true, false, Option, Some, None, arith, nat_le, unwrap_or, true≢false, sym}
 use Rattle.std.proofs.lemmas.Bool.{and_parts, leb-true}
+use Rattle.wg_types.specs.declared.limits.Maker.{Maker}
 use Rattle.wg_types.specs.Handles.{HandleValue}
 use Rattle.wg_types.specs.Commands.{Command}
 use Rattle.wg_types.specs.declared.commands.CommandOf.TheVariants.{CopyBufferToBuffer, CopyBufferToTexture, CopyTextureToBuffer, CopyTextureToTexture, ClearBuffer, ResolveQuerySet}
@@ -55,33 +56,33 @@ read_from : (texture : HandleValue) (spot : TextureSpot) (size : List ℕ) → t
 read_from texture spot size valid small e =
     mapped_small (copy_src_usage, Read) (copied_cells texture.reference.number (texture_of texture) spot size) ((texture_small texture valid small).copies texture.reference.number spot size e)
 
-pub encoder_small : (device depth_ : ℕ) (command : Command) → IsSmallCommand command → encoder_gives device None depth_ command ≡ None → IsDoneSmall (encoder_does command)
+pub encoder_small : (maker : Maker) (depth_ : ℕ) (command : Command) → IsSmallCommand command → encoder_gives maker None depth_ command ≡ None → IsDoneSmall (encoder_does command)
 unfolding encoder_does
-encoder_small device depth_ (CopyBufferToBuffer source source_offset target target_offset size) small e =
-    let met : AreMet (command_rules device depth_ (CopyBufferToBuffer source source_offset target target_offset size)) = none_met (command_rules device depth_ (CopyBufferToBuffer source source_offset target target_offset size)) e in
+encoder_small maker depth_ (CopyBufferToBuffer source source_offset target target_offset size) small e =
+    let met : AreMet (command_rules maker.device depth_ (CopyBufferToBuffer source source_offset target target_offset size)) = none_met (command_rules maker.device depth_ (CopyBufferToBuffer source source_offset target target_offset size)) e in
     let fit = and_parts (nat_le (source_offset + size) (buffer_of source).size) (nat_le (target_offset + size) (buffer_of target).size) met.1.1.1.1.1.1.1.0 in
     unless_small (size == 0) _ (range_small source source_offset size met.1.0 small.0 fit.0, (range_small target target_offset size met.1.1.1.0 small.1.0 fit.1, tt))
-encoder_small device depth_ (CopyBufferToTexture buffer layout texture spot size) small e =
-    let met : AreMet (command_rules device depth_ (CopyBufferToTexture buffer layout texture spot size)) = none_met (command_rules device depth_ (CopyBufferToTexture buffer layout texture spot size)) e in
+encoder_small maker depth_ (CopyBufferToTexture buffer layout texture spot size) small e =
+    let met : AreMet (command_rules maker.device depth_ (CopyBufferToTexture buffer layout texture spot size)) = none_met (command_rules maker.device depth_ (CopyBufferToTexture buffer layout texture spot size)) e in
     let texels = met.1.1.1.1.1.1 in
     unless_small (has_no_texel size) _ (layout_small buffer layout (texel_to spot.aspect (texture_of texture).format) size met.1.0 small.0 texels.1.1.1.1.1.0, copied texture spot size met.1.1.1.0 small.1.0 texels.1.0)
-encoder_small device depth_ (CopyTextureToBuffer buffer layout texture spot size) small e =
-    let met : AreMet (command_rules device depth_ (CopyTextureToBuffer buffer layout texture spot size)) = none_met (command_rules device depth_ (CopyTextureToBuffer buffer layout texture spot size)) e in
+encoder_small maker depth_ (CopyTextureToBuffer buffer layout texture spot size) small e =
+    let met : AreMet (command_rules maker.device depth_ (CopyTextureToBuffer buffer layout texture spot size)) = none_met (command_rules maker.device depth_ (CopyTextureToBuffer buffer layout texture spot size)) e in
     let texels = met.1.1.1.1.1.1 in
     unless_small (has_no_texel size) _ (layout_small buffer layout (texel_from spot.aspect (texture_of texture).format) size met.1.0 small.0 texels.1.1.1.1.1.0, read_from texture spot size met.1.1.1.0 small.1.0 texels.1.0)
-encoder_small device depth_ (CopyTextureToTexture source source_mip source_origin target target_mip target_origin size) small e =
-    let met : AreMet (command_rules device depth_ (CopyTextureToTexture source source_mip source_origin target target_mip target_origin size)) = none_met (command_rules device depth_ (CopyTextureToTexture source source_mip source_origin target target_mip target_origin size)) e in
+encoder_small maker depth_ (CopyTextureToTexture source source_mip source_origin target target_mip target_origin size) small e =
+    let met : AreMet (command_rules maker.device depth_ (CopyTextureToTexture source source_mip source_origin target target_mip target_origin size)) = none_met (command_rules maker.device depth_ (CopyTextureToTexture source source_mip source_origin target target_mip target_origin size)) e in
     let own = met.1.1.1.1 in
     unless_small (has_no_texel size) _
     (both_touched (copied_from source.reference.number (texture_of source) (whole_spot source_mip source_origin) size) (copied_to target.reference.number (texture_of target) (whole_spot target_mip target_origin) size)
     (read_from source (whole_spot source_mip source_origin) size met.1.0 small.0 own.1.1.1.1.0)
     (copied target (whole_spot target_mip target_origin) size met.1.1.1.0 small.1.0 own.1.1.1.1.1.0))
-encoder_small device depth_ (ClearBuffer buffer offset size) small e =
-    let met : AreMet (command_rules device depth_ (ClearBuffer buffer offset size)) = none_met (command_rules device depth_ (ClearBuffer buffer offset size)) e in
+encoder_small maker depth_ (ClearBuffer buffer offset size) small e =
+    let met : AreMet (command_rules maker.device depth_ (ClearBuffer buffer offset size)) = none_met (command_rules maker.device depth_ (ClearBuffer buffer offset size)) e in
     unless_small (size_or_rest buffer offset size == 0) _ (range_small buffer offset (size_or_rest buffer offset size) met.1.0 small.0 met.1.1.1.1.0, tt)
-encoder_small device depth_ (ResolveQuerySet queries first count buffer offset) small e =
-    let met : AreMet (command_rules device depth_ (ResolveQuerySet queries first count buffer offset)) = none_met (command_rules device depth_ (ResolveQuerySet queries first count buffer offset)) e in
+encoder_small maker depth_ (ResolveQuerySet queries first count buffer offset) small e =
+    let met : AreMet (command_rules maker.device depth_ (ResolveQuerySet queries first count buffer offset)) = none_met (command_rules maker.device depth_ (ResolveQuerySet queries first count buffer offset)) e in
     let inside : first + count ≤ (queries_of queries).count = leb-true (first + count) (queries_of queries).count (and_parts _ (nat_le (first + count) (queries_of queries).count) met.1.1.1.1.1.0).1 in
     let few : (queries_of queries).count ≤ most_32 = queries_small queries met.1.0 small.0 in
     unless_small (count == 0) _ (omega (arith, inside, few), (range_small buffer offset (query_bytes * count) met.1.1.1.0 small.1.0 met.1.1.1.1.1.1.1.0, tt))
-encoder_small device depth_ _ small e = tt
+encoder_small maker depth_ _ small e = tt

@@ -5,6 +5,7 @@ use Rattle.std.specs.Option.{option_or, option_map_or}
 use Rattle.std.proofs.Common.{◌≡◌, ℕ, ◌≤◌, ◌==◌, ◌&&◌, not, List, [], ◌∷◌, ◌++◌, map, Bool, true, false, Option, Some, None, is_none, refl, sym, subst, arith, if◌then◌else◌, true≢false}
 use Rattle.std.proofs.lemmas.Bool.{and_parts, or_parts, leb-true}
 use Rattle.std.proofs.lemmas.List.{reverse-append, reverse-reverse}
+use Rattle.wg_types.specs.declared.limits.Maker.{Maker}
 use Rattle.wg_types.specs.Bindings.{resource_named, entries_named}
 use Rattle.wg_types.specs.Commands.{named}
 use Rattle.wg_types.specs.Handles.{HandleValue}
@@ -151,10 +152,10 @@ made_small setup older (CreateBindGroup layout entries) best fixed all made =
     bound_small setup older entries all those.1.1.1
 made_small setup older (FinishBundle encoder recording) best fixed all made =
     let rules : is_none (finish_bundle_rule setup older encoder recording) ≡ true = (and_parts (not (is_lost older)) (is_none (finish_bundle_rule setup older encoder recording)) made).1 in
-    let later = neither (first_unmet (encoder_rules setup older _ encoder)) (option_or (Verdict recording.device recording.targets recording.commands) (first_unmet (kept_rules setup older encoder.number recording))) rules in
-    let last = neither (Verdict recording.device recording.targets recording.commands) (first_unmet (kept_rules setup older encoder.number recording)) later.1 in
+    let later = neither (first_unmet (encoder_rules setup older _ encoder)) (option_or (Verdict recording.maker recording.targets recording.commands) (first_unmet (kept_rules setup older encoder.number recording))) rules in
+    let last = neither (Verdict recording.maker recording.targets recording.commands) (first_unmet (kept_rules setup older encoder.number recording)) later.1 in
     let met : AreMet (kept_rules setup older encoder.number recording) = all_met (kept_rules setup older encoder.number recording) last.1 in
-    bundle_of_small recording.device recording.targets recording.commands
+    bundle_of_small recording.maker recording.targets recording.commands
     (commands_small setup older encoder.number recording.commands all (not_true_false (any_barred setup older encoder.number recording.commands) met.1.0))
 made_small setup older _ best fixed all made = tt
 
@@ -169,27 +170,27 @@ all_small setup (entry ∷ older) best fixed run n known valid e =
     by_maker false valid e rest all = rest valid e
 
 -- What a recording does.
-recorded_does : (device : ℕ) → Does device IsSmallCommand (λ on doing. IsSmallDoing doing)
-recorded_does device = record {
-  on_encoder = λ depth command small e. encoder_small device depth command small e;
-  in_pass = λ number begin earlier command first smalls small e. pass_does_small device begin earlier command first smalls small e;
+recorded_does : (maker : Maker) → Does maker IsSmallCommand (λ on doing. IsSmallDoing doing)
+recorded_does maker = record {
+  on_encoder = λ depth command small e. encoder_small maker depth command small e;
+  in_pass = λ number begin earlier command first smalls small e. pass_does_small maker begin earlier command first smalls small e;
 }
 
 placed_small : (done : List Doing) → EachRow IsSmallDoing done → EachRow HasSmallRanges (map (placed (Op 0)) (map deed_of done))
 placed_small [] h = tt
 placed_small (doing ∷ done) h = (step_small doing h.0, placed_small done h.1)
 
-recorded_small : (device : ℕ) (targets : Option TargetInfo) (commands : Kept) → EachKept IsSmallCommand commands → EachRow HasSmallRanges (map (placed (Op 0)) (DeedsOf device targets commands))
-recorded_small device (Some targets) commands small = tt
-recorded_small device None commands small = by_rules (is_none (verdict device (reverse commands)) && is_none (open_pass (reverse commands))) refl
+recorded_small : (maker : Maker) (targets : Option TargetInfo) (commands : Kept) → EachKept IsSmallCommand commands → EachRow HasSmallRanges (map (placed (Op 0)) (DeedsOf maker targets commands))
+recorded_small maker (Some targets) commands small = tt
+recorded_small maker None commands small = by_rules (is_none (verdict maker (reverse commands)) && is_none (open_pass (reverse commands))) refl
   where
-    by_rules : (b : Bool) → is_none (verdict device (reverse commands)) && is_none (open_pass (reverse commands)) ≡ b → EachRow HasSmallRanges (map (placed (Op 0)) (if b then deeds (reverse commands) else []))
+    by_rules : (b : Bool) → is_none (verdict maker (reverse commands)) && is_none (open_pass (reverse commands)) ≡ b → EachRow HasSmallRanges (map (placed (Op 0)) (if b then deeds (reverse commands) else []))
     by_rules false e = tt
     by_rules true e =
-        let parts : (is_none (verdict device (reverse commands)) ≡ true) × (is_none (open_pass (reverse commands)) ≡ true) = and_parts (is_none (verdict device (reverse commands))) (is_none (open_pass (reverse commands))) e in
+        let parts : (is_none (verdict maker (reverse commands)) ≡ true) × (is_none (open_pass (reverse commands)) ≡ true) = and_parts (is_none (verdict maker (reverse commands))) (is_none (open_pass (reverse commands))) e in
         placed_small (doings (reverse commands))
         (each_done IsSmallDoing (reverse commands)
-        (walked device IsSmallCommand (λ on doing. IsSmallDoing doing) (recorded_does device) (reverse commands) (kept_reverse IsSmallCommand commands small) (none_is (verdict device (reverse commands)) parts.0) (none_is (open_pass (reverse commands)) parts.1)))
+        (walked maker IsSmallCommand (λ on doing. IsSmallDoing doing) (recorded_does maker) (reverse commands) (kept_reverse IsSmallCommand commands small) (none_is (verdict maker (reverse commands)) parts.0) (none_is (open_pass (reverse commands)) parts.1)))
 
 -- What a valid command buffer does.
 event_small : (setup : Setup) (older : Past) (event : Event) → AllSmall older
@@ -197,10 +198,10 @@ event_small : (setup : Setup) (older : Past) (event : Event) → AllSmall older
 unfolding finish_rule
 event_small setup older (Finish encoder recording) all made =
     let rules : is_none (finish_rule setup older encoder recording) ≡ true = (and_parts (not (is_lost older)) (is_none (finish_rule setup older encoder recording)) made).1 in
-    let later = neither (first_unmet (encoder_rules setup older _ encoder)) (option_or (Verdict recording.device recording.targets recording.commands) (first_unmet (recording_rules setup older encoder.number recording))) rules in
-    let last = neither (Verdict recording.device recording.targets recording.commands) (first_unmet (recording_rules setup older encoder.number recording)) later.1 in
+    let later = neither (first_unmet (encoder_rules setup older _ encoder)) (option_or (Verdict recording.maker recording.targets recording.commands) (first_unmet (recording_rules setup older encoder.number recording))) rules in
+    let last = neither (Verdict recording.maker recording.targets recording.commands) (first_unmet (recording_rules setup older encoder.number recording)) later.1 in
     let met : AreMet (recording_rules setup older encoder.number recording) = all_met (recording_rules setup older encoder.number recording) last.1 in
-    recorded_small recording.device recording.targets recording.commands
+    recorded_small recording.maker recording.targets recording.commands
     (commands_small setup older encoder.number recording.commands all (not_true_false (any_barred setup older encoder.number recording.commands) met.1.1.0))
 event_small setup older _ all made = tt
 

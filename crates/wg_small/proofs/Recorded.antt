@@ -126,11 +126,11 @@ made_within most op None le unused = tt
 made_within most op (Some entry) le unused = by_recording (recording_in entry.event) unused
   where
     by_recording : (o : Option RecordingValue) → ((n : ℕ) → most ≤ n → uses_resource (option_map_or (λ (recording : RecordingValue). recording.commands) o []) n ≡ false)
-        → EachRow (IsSaid (within most)) (map (placed (Op op)) (option_map_or (λ (recording : RecordingValue). DeedsOf recording.device recording.targets recording.commands) o []))
+        → EachRow (IsSaid (within most)) (map (placed (Op op)) (option_map_or (λ (recording : RecordingValue). DeedsOf recording.maker recording.targets recording.commands) o []))
     by_recording None unused = tt
     by_recording (Some recording) unused =
-        steps_within most op (DeedsOf recording.device recording.targets recording.commands) le (λ k s e. (recorded_are_declared (Op op) recording.device recording.targets recording.commands k s e).0)
-        (λ n more. recorded_spare (Op op) recording.device recording.targets recording.commands n (unused n more)) (recorded_filled (Op op) recording.device recording.targets recording.commands)
+        steps_within most op (DeedsOf recording.maker recording.targets recording.commands) le (λ k s e. (recorded_are_declared (Op op) recording.maker recording.targets recording.commands k s e).0)
+        (λ n more. recorded_spare (Op op) recording.maker recording.targets recording.commands n (unused n more)) (recorded_filled (Op op) recording.maker recording.targets recording.commands)
 
 pub valid_within : (setup : Setup) (past : Past) (most op b : ℕ) → IsRun setup past → length past ≤ most → op ≤ most → is_valid past b ≡ true → EachRow (IsSaid (within most)) (steps_at (Op op) past b)
 valid_within setup past most op b run few le valid = made_within most op (maker past b) le (λ n more. valid_unused setup past b n run (let made = count_le past in omega (arith, made, few, more)) valid)

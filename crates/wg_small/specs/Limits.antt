@@ -77,7 +77,7 @@ ReadsBackByRecordings =
     → step_count (Trace setup history) ≤ most_53 + 1
     → trace_in (report_of setup history) ≡ Ok (Trace setup history)
 
--- The numbers by which the commands of a recorder go, which knows no device, are limits of a device.
+-- The numbers by which all recorders go alike, whatever limits they were made with, are limits of a device.
 pub record GoByLimits (limits : Limits) : Type 0 where
   pub groups : limits.max_bind_groups ≡ most_groups
   pub slots : limits.max_vertex_buffers ≡ most_slots
@@ -86,8 +86,8 @@ pub record GoByLimits (limits : Limits) : Type 0 where
   pub uniform_offsets : limits.min_uniform_buffer_offset_alignment ≡ offset_alignment
   pub storage_offsets : limits.min_storage_buffer_offset_alignment ≡ offset_alignment
 
--- The numbers by which recorders go are limits of a device that is opened without asking for any, and of each that has the same of
--- what none has otherwise.
+-- The numbers by which all recorders go alike are limits of a device that is opened without asking for any, and of each that has the
+-- same of what none has otherwise.
 pub record RecordersGoByLimits : Type 0 where
   pub by_default : GoByLimits default_limits
   pub fixed : (limits : Limits) → HaveFixed limits → GoByLimits limits

@@ -29,8 +29,8 @@ pub fn ranges_are_small()
     ensures read { ReadsBackByRecordings }
 {}
 
-/// The numbers by which the commands of recorders go, which know no device, are the limits of every device that has those which
-/// no script changes as they are by default.
+/// The numbers by which the commands of all recorders go alike, whatever limits these were made with, are the limits of every
+/// device that has those which no script changes as they are by default.
 pub fn recorders_go_by_limits()
     ensures { RecordersGoByLimits }
 {}

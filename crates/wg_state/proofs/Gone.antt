@@ -1,8 +1,9 @@
 -- What an event names was not let go, and what was let go is dead.
-use Rattle.std.proofs.Common.{◌≡◌, ℕ, suc, zero, ◌-◌, ◌<◌, Bool, true, false, not, ◌&&◌, ◌||◌, nat_lt, List, [], ◌∷◌, ◌++◌, length, map, get_or, Option, Some, None, is_some, is_none, option_map, option_to_list, unwrap_or, inl, inr, refl, sym, ap, ap₂, ◌∙◌, arith, if◌then◌else◌, true≢false}
+use Rattle.std.proofs.Common.{◌≡◌, ℕ, suc, zero, ◌-◌, ◌<◌, Bool, true, false, not, ◌&&◌, ◌||◌, nat_lt, List, [], ◌∷◌, ◌++◌, length, map, get_or, Option, Some, None, is_some, is_none, option_map, option_and_then, option_to_list, unwrap_or, inl, inr, refl, sym, ap, ap₂, ◌∙◌, arith, if◌then◌else◌, true≢false}
 use Rattle.std.specs.Option.{option_map_or}
 use Rattle.std.proofs.lemmas.Bool.{cases_lt, lt-ltb, and_parts, ltb-true}
 use Rattle.std.proofs.lemmas.List.Folds.{list_any-append}
+use Rattle.std.specs.List.{flat_map}
 use Rattle.wg_fading.specs.Fading.{was_let_go}
 use Rattle.wg_types.specs.declared.handles.Info.{Info}
 use Rattle.wg_types.specs.declared.handles.Info.TheVariants.{View as ViewKind, PipelineLayout as PipelineLayoutKind, Group as GroupKind, GroupLayout as GroupLayoutKind, Compute as ComputeKind, Render as RenderKind}
@@ -20,7 +21,7 @@ use Rattle.wg_types.specs.declared.groups.PipelineLayoutInfo.{PipelineLayoutInfo
 use Rattle.wg_types.specs.Bindings.{resource_named, entries_named}
 use Rattle.wg_model.specs.Automatic.{entries_at, known_layouts}
 use Rattle.wg_model.specs.Bound.{is_automatic}
-use Rattle.wg_model.specs.Making.{known_buffer, known_texture, known_view, known_sampler, known_group_layout, known_pipeline_layout, bound_resource, bound_entry, layout_made}
+use Rattle.wg_model.specs.Making.{known_buffer, known_texture, known_view, known_sampler, known_group_layout, known_pipeline_layout, bound_resource, bound_entry, given_layouts, layout_made}
 use Rattle.wg_model.specs.Views.{view_info}
 use Rattle.wg_history.specs.declared.events.Setup.{Setup}
 use Rattle.wg_history.specs.declared.events.Form.{Form}
@@ -122,10 +123,12 @@ submitted_here gone event none = (names_here gone event none).submits
 known_same : (gone : List ℕ) (past : Past) (object : ObjRef) → was_let_go gone object.number ≡ false → known_here gone past object ≡ known_in past object
 known_same gone past object here = ap (λ b. if b then None else info_at past object.number) here
 
-layouts_same : (gone : List ℕ) (past : Past) (layouts : List ObjRef) → any_gone gone layouts ≡ false → map (λ layout. known_group_layout (known_here gone past layout)) layouts ≡ map (λ layout. known_group_layout (known_in past layout)) layouts
+layouts_same : (gone : List ℕ) (past : Past) (layouts : List (Option ObjRef)) → any_gone gone (flat_map option_to_list layouts) ≡ false
+    → map (λ layout. known_group_layout (option_and_then (known_here gone past) layout)) layouts ≡ map (λ layout. known_group_layout (option_and_then (known_in past) layout)) layouts
 layouts_same gone past [] none = refl
-layouts_same gone past (layout ∷ layouts) none =
-    let both = or_parts (was_let_go gone layout.number) (any_gone gone layouts) none in
+layouts_same gone past (None ∷ layouts) none = ap (λ (rest : List GroupLayoutInfo). known_group_layout None ∷ rest) (layouts_same gone past layouts none)
+layouts_same gone past (Some layout ∷ layouts) none =
+    let both = or_parts (was_let_go gone layout.number) (any_gone gone (flat_map option_to_list layouts)) none in
     ap₂ (λ (info : GroupLayoutInfo) (rest : List GroupLayoutInfo). info ∷ rest) (ap known_group_layout (known_same gone past layout both.left)) (layouts_same gone past layouts both.right)
 
 resource_same : (gone : List ℕ) (past : Past) (resource : ResourceOf ObjRef) → was_let_go gone (resource_named resource).0.number ≡ false → bound_resource (λ r. r) (known_here gone past) resource ≡ bound_resource (λ r. r) (known_in past) resource
@@ -150,7 +153,7 @@ made_same gone past (CreateTexture info) none = refl
 made_same gone past (CreateView texture desc) none = ap (λ (o : Option Info). Some (ViewKind (view_info (known_texture o) texture desc))) (known_same gone past texture (or_parts (was_let_go gone texture.number) false none).left)
 made_same gone past (CreateSampler kind) none = refl
 made_same gone past (CreateBindGroupLayout entries) none = refl
-made_same gone past (CreatePipelineLayout layouts) none = ap (λ (infos : List GroupLayoutInfo). Some (PipelineLayoutKind (record { layouts = map (λ r. r) layouts; layouts_info = infos }))) (layouts_same gone past layouts none)
+made_same gone past (CreatePipelineLayout layouts) none = ap (λ (infos : List GroupLayoutInfo). Some (PipelineLayoutKind (record { layouts = given_layouts (λ r. r) layouts; layouts_info = infos }))) (layouts_same gone past layouts none)
 made_same gone past (CreateBindGroup layout entries) none =
     let both = or_parts (was_let_go gone layout.number) (any_gone gone (map (λ named. named.0) (entries_named entries))) none in
     ap₂ (λ (o : Option Info) (bound : List BoundEntry). Some (GroupKind (record { layout = layout; layout_info = known_group_layout o; entries = bound }))) (known_same gone past layout both.left) (entries_same gone past entries both.right)

@@ -1,6 +1,6 @@
 -- What events name, and what was let go.
 use Rattle.std.specs.Prelude.{◌≡◌, ℕ, ◌<◌, Bool, true, false, not, ◌&&◌, nat_lt, List, [], ◌∷◌, ◌++◌, map, Option, None, is_some, option_to_list, if◌then◌else◌}
-use Rattle.std.specs.List.{list_any}
+use Rattle.std.specs.List.{list_any, flat_map}
 use Rattle.wg_fading.specs.Fading.{was_let_go}
 use Rattle.wg_types.specs.declared.handles.Info.{Info}
 use Rattle.wg_types.specs.declared.handles.ObjRef.{ObjRef}
@@ -40,7 +40,7 @@ made_of (CreateTexture info) = []
 made_of (CreateView texture desc) = texture ∷ []
 made_of (CreateSampler kind) = []
 made_of (CreateBindGroupLayout entries) = []
-made_of (CreatePipelineLayout layouts) = layouts
+made_of (CreatePipelineLayout layouts) = flat_map option_to_list layouts
 made_of (CreateBindGroup layout entries) = layout ∷ map (λ named. named.0) (entries_named entries)
 made_of (CreateComputePipeline layout iface) = option_to_list layout
 made_of (CreateRenderPipeline layout desc) = option_to_list layout

@@ -37,7 +37,7 @@ commands_of o = option_map_or (λ (recording : RecordingValue). recording.comman
 
 -- what the commands of a recording do, or nothing where there is none
 abbrev pub deeds_of : Option RecordingValue → List Deed
-deeds_of o = option_map_or (λ (recording : RecordingValue). DeedsOf recording.device recording.targets recording.commands) o []
+deeds_of o = option_map_or (λ (recording : RecordingValue). DeedsOf recording.maker recording.targets recording.commands) o []
 
 -- the recording of the finish that made object n
 abbrev pub recording_at : Past → ℕ → Option RecordingValue

@@ -17,12 +17,13 @@ use Rattle.wg_told.specs.declared.flats.FlatRender.{FlatRender}
 use Rattle.wg_told.specs.declared.flats.FlatBundle.{FlatBundle}
 use Rattle.wg_told.specs.declared.flats.FlatColor.{FlatColor}
 use Rattle.wg_told.specs.declared.flats.FlatDepth.{FlatDepth}
+use Rattle.wg_told.specs.declared.flats.FlatViewport.{FlatViewport}
 use Rattle.wg_told.specs.declared.flats.FlatBufferCopy.{FlatBufferCopy}
 use Rattle.wg_told.specs.declared.flats.FlatTexelCopy.{FlatTexelCopy}
 use Rattle.wg_told.specs.declared.flats.FlatTextureCopy.{FlatTextureCopy}
 use Rattle.wg_told.specs.declared.flats.FlatTextureWrite.{FlatTextureWrite}
 use Rattle.wg_told.specs.Tables.{nth, maybe_nth, flag_of, wide_of, formats, sampler_kinds, index_formats, filters}
-use Rattle.wg_told.specs.Flats.{every, extent_of, origin_of, buffer_of, texture_of, view_of, layout_entry_of, compute_iface_of, render_iface_of, group_entry_of, vertex_buffers_of, target_of, depth_of, color_of, depth_target_of, layout_of, spot_of}
+use Rattle.wg_told.specs.Flats.{every, extent_of, origin_of, buffer_of, texture_of, view_of, layout_entry_of, compute_iface_of, render_iface_of, group_entry_of, vertex_buffers_of, target_of, depth_of, color_of, depth_target_of, viewport_of, layout_of, spot_of}
 
 -- Calls.
 
@@ -81,9 +82,9 @@ push_error_scope filter = option_map (λ caught. request.PushErrorScope caught) 
 -- Commands.
 
 -- the beginRenderPass of flat attachments, if their values are ones
-abbrev pub begin_render_pass : List FlatColor → FlatDepth → ℕ → Option (CommandOf ℕ)
-begin_render_pass colors depth queries =
-    option_and_then (λ attached. option_map (λ drawn. command.BeginRenderPass (record { colors = drawn; depth = attached; queries = wide_of queries }))
+abbrev pub begin_render_pass : List FlatColor → FlatDepth → ℕ → ℕ → Option (CommandOf ℕ)
+begin_render_pass colors depth queries max_draws =
+    option_and_then (λ attached. option_map (λ drawn. command.BeginRenderPass (record { colors = drawn; depth = attached; queries = wide_of queries; max_draws = wide_of max_draws }))
     (every color_of colors)) (depth_target_of depth)
 
 -- the copyBufferToBuffer that a flat copy asks for
@@ -104,6 +105,10 @@ copy_texture_to_buffer copy =
 abbrev pub copy_texture_to_texture : FlatTextureCopy → CommandOf ℕ
 copy_texture_to_texture copy =
     command.CopyTextureToTexture copy.source copy.source_mip (origin_of copy.source_origin) copy.target copy.target_mip (origin_of copy.target_origin) (extent_of copy.size)
+
+-- the setViewport of a flat viewport, if its flags are ones
+abbrev pub set_viewport : FlatViewport → Option (CommandOf ℕ)
+set_viewport viewport = option_map (λ known. command.SetViewport known) (viewport_of viewport)
 
 -- the setIndexBuffer of a format, if the number is one
 abbrev pub set_index_buffer : ℕ → ℕ → ℕ → ℕ → Option (CommandOf ℕ)

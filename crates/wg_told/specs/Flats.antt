@@ -21,6 +21,7 @@ use Rattle.wg_types.specs.declared.vertex.VertexBuffer.{VertexBuffer}
 use Rattle.wg_types.specs.declared.render.DepthState.{DepthState}
 use Rattle.wg_types.specs.declared.render.ColorTargetOf.{ColorTargetOf}
 use Rattle.wg_types.specs.declared.render.DepthTargetOf.{DepthTargetOf}
+use Rattle.wg_types.specs.declared.render.Viewport.{Viewport}
 use Rattle.wg_types.specs.declared.commands.On.{On}
 use Rattle.wg_types.specs.declared.commands.On.TheVariants.{Encoder, Pass}
 use Rattle.wg_told.specs.declared.flats.FlatExtent.{FlatExtent}
@@ -37,6 +38,7 @@ use Rattle.wg_told.specs.declared.flats.FlatAttribute.{FlatAttribute}
 use Rattle.wg_told.specs.declared.flats.FlatRender.{FlatRender}
 use Rattle.wg_told.specs.declared.flats.FlatColor.{FlatColor}
 use Rattle.wg_told.specs.declared.flats.FlatDepth.{FlatDepth}
+use Rattle.wg_told.specs.declared.flats.FlatViewport.{FlatViewport}
 use Rattle.wg_told.specs.declared.flats.FlatTexelLayout.{FlatTexelLayout}
 use Rattle.wg_told.specs.declared.flats.FlatSpot.{FlatSpot}
 use Rattle.wg_told.specs.Tables.{nth, maybe_nth, flag_of, left_out, wide_of, narrow_of, formats, sample_types, texture_dims, view_dims, aspects, buffer_bindings, sampler_kinds, storage_accesses, render_stages, vertex_steps, vertex_formats, load_ops, store_ops}
@@ -210,6 +212,20 @@ depth_attached_of d =
 -- the depth attachment that a flat one is, or none where its view is left out, if its values are ones
 abbrev pub depth_target_of : FlatDepth → Option (Option (DepthTargetOf ℕ))
 depth_target_of d = if nat_eq d.view left_out then Some None else depth_attached_of d
+
+-- the viewport that a flat one is, if its flags are ones
+abbrev pub viewport_of : FlatViewport → Option Viewport
+viewport_of v =
+    option_and_then (λ left. option_map (λ above. record {
+      x = v.x;
+      left = left;
+      y = v.y;
+      above = above;
+      width = v.width;
+      height = v.height;
+      min_depth = v.min_depth;
+      max_depth = v.max_depth;
+    }) (flag_of v.above)) (flag_of v.left)
 
 -- the layout of texels that a flat one is, if its values are ones
 abbrev pub layout_of : FlatTexelLayout → Option DataLayout

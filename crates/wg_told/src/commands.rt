@@ -3,9 +3,14 @@
 ghost use Rattle.std.specs.Prelude.{◌≡◌, IfOk};
 ghost use Rattle.wg_types.specs.declared.commands.CommandOf.TheVariants as command;
 ghost use Rattle.wg_told.specs.Asked as asked;
+ghost use Rattle.wg_told.specs.Tables.{wide_of};
 
-use crate::flats::{FlatBufferCopy, FlatColor, FlatDepth, FlatTexelCopy, FlatTextureCopy};
-use crate::meaning::{Colors, depth_target_of, every, extent_of, layout_of, origin_of, spot_of};
+use crate::flats::{
+    FlatBufferCopy, FlatColor, FlatDepth, FlatTexelCopy, FlatTextureCopy, FlatViewport,
+};
+use crate::meaning::{
+    Colors, depth_target_of, every, extent_of, layout_of, origin_of, spot_of, viewport_of,
+};
 use crate::requests::objects;
 use crate::tables::{INDEX_FORMATS, nth, wide_of};
 use std::alloc::Global;
@@ -20,8 +25,9 @@ pub fn begin_render_pass(
     colors: &[FlatColor],
     depth: &FlatDepth,
     queries: u64,
+    max_draws: u64,
 ) -> Result<Option<CommandOf<u64>>, NoMemory>
-    ensures { IfOk result (λ made. made ≡ asked.begin_render_pass colors.now depth.now queries) }
+    ensures { IfOk result (λ made. made ≡ asked.begin_render_pass colors.now depth.now queries max_draws) }
 {
     let Some(depth) = depth_target_of(depth) else {
         return Ok(None);
@@ -33,6 +39,7 @@ pub fn begin_render_pass(
         colors,
         depth,
         queries: wide_of(queries),
+        max_draws: wide_of(max_draws),
     };
     Ok(Some(CommandOf::BeginRenderPass { begin }))
 }
@@ -97,12 +104,12 @@ pub fn set_bind_group(
     group: u64,
     offsets: &[u32],
 ) -> Result<CommandOf<u64>, NoMemory>
-    ensures { IfOk result (λ made. made ≡ command.SetBindGroup index group offsets.now) }
+    ensures { IfOk result (λ made. made ≡ command.SetBindGroup index (wide_of group) offsets.now) }
 {
     let offsets = Shared::new(alloc, Items::from_vec(offsets.to_vec(alloc)?))?;
     Ok(CommandOf::SetBindGroup {
         index,
-        group,
+        group: wide_of(group),
         offsets,
     })
 }
@@ -117,6 +124,13 @@ pub fn set_index_buffer(buffer: u64, format: u32, offset: u64, size: u64) -> Opt
         offset,
         size: wide_of(size),
     })
+}
+
+pub fn set_viewport(viewport: &FlatViewport) -> Option<CommandOf<u64>>
+    ensures { result ≡ asked.set_viewport viewport.now }
+{
+    let viewport = viewport_of(viewport)?;
+    Some(CommandOf::SetViewport { viewport })
 }
 
 pub fn execute_bundles(alloc: Global, bundles: &[u64]) -> Result<CommandOf<u64>, NoMemory>

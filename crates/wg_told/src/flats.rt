@@ -152,6 +152,20 @@ pub struct FlatDepth {
     pub stencil_read_only: u32,
 }
 
+/// A viewport, each number of which stands for itself over 65536.
+#[repr(C)]
+#[derive(Clone, Copy)]
+pub struct FlatViewport {
+    pub x: u64,
+    pub y: u64,
+    pub width: u64,
+    pub height: u64,
+    pub min_depth: u64,
+    pub max_depth: u64,
+    pub left: u32,
+    pub above: u32,
+}
+
 #[repr(C)]
 #[derive(Clone, Copy)]
 pub struct FlatTexelLayout {

@@ -1,11 +1,11 @@
 //! What flat structs stand for.
 ghost use Rattle.std.specs.Prelude.{◌≡◌, Option, IfOk};
-ghost use Rattle.wg_told.specs.Flats.{every, extent_of, origin_of, buffer_of, texture_of, view_of, buffer_binding_of, texture_binding_of, storage_binding_of, binding_of, layout_entry_of, used_of, compute_iface_of, render_iface_of, resource_of, group_entry_of, attribute_of, target_of, depth_with, depth_of, attached_of, color_of, depth_attached_of, depth_target_of, layout_of, spot_of, on_of};
+ghost use Rattle.wg_told.specs.Flats.{every, extent_of, origin_of, buffer_of, texture_of, view_of, buffer_binding_of, texture_binding_of, storage_binding_of, binding_of, layout_entry_of, used_of, compute_iface_of, render_iface_of, resource_of, group_entry_of, attribute_of, target_of, depth_with, depth_of, attached_of, color_of, depth_attached_of, depth_target_of, viewport_of, layout_of, spot_of, on_of};
 
 use crate::flats::{
     FlatAttribute, FlatBinding, FlatBuffer, FlatColor, FlatDepth, FlatExtent, FlatGroupEntry,
     FlatIfaceEntry, FlatLayoutEntry, FlatOrigin, FlatRender, FlatSpot, FlatTexelLayout,
-    FlatTexture, FlatView,
+    FlatTexture, FlatView, FlatViewport,
 };
 use crate::tables::{
     ASPECTS, BUFFER_BINDINGS, FORMATS, LEFT_OUT, LOAD_OPS, RENDER_STAGES, SAMPLE_TYPES,
@@ -19,7 +19,7 @@ use wg_types::commands::On;
 use wg_types::formats::Format;
 use wg_types::handles::BufferInfo;
 use wg_types::items::Items;
-use wg_types::render::{ColorTargetOf, DepthState, DepthTargetOf};
+use wg_types::render::{ColorTargetOf, DepthState, DepthTargetOf, Viewport};
 use wg_types::textures::{DataLayout, TextureInfo, TextureSpot, ViewAsked};
 use wg_types::vertex::VertexAttribute;
 
@@ -345,6 +345,23 @@ pub fn depth_target_of(flat: &FlatDepth) -> Option<Option<DepthTargetOf<u64>>>
         return Some(None);
     }
     depth_attached_of(flat)
+}
+
+pub fn viewport_of(flat: &FlatViewport) -> Option<Viewport>
+    ensures { result ≡ viewport_of flat.now }
+{
+    let left = flag_of(flat.left)?;
+    let above = flag_of(flat.above)?;
+    Some(Viewport {
+        x: flat.x,
+        left,
+        y: flat.y,
+        above,
+        width: flat.width,
+        height: flat.height,
+        min_depth: flat.min_depth,
+        max_depth: flat.max_depth,
+    })
 }
 
 pub fn layout_of(flat: &FlatTexelLayout) -> Option<DataLayout>

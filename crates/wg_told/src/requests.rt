@@ -1,8 +1,9 @@
 //! Which calls the arguments of the header stand for, over the numbers of objects. Each answers none where a
 //! value is out of its range, so that the arguments stand for no call.
-ghost use Rattle.std.specs.Prelude.{◌≡◌, IfOk};
+ghost use Rattle.std.specs.Prelude.{◌≡◌, IfOk, map};
 ghost use Rattle.wg_types.specs.declared.requests.RequestOf.TheVariants as request;
 ghost use Rattle.wg_told.specs.Asked as asked;
+ghost use Rattle.wg_told.specs.Tables.{wide_of};
 
 use crate::flats::{
     FlatAttribute, FlatBuffer, FlatBundle, FlatGroupEntry, FlatIfaceEntry, FlatLayoutEntry,
@@ -70,11 +71,22 @@ pub fn objects(alloc: Global, numbers: &[u64]) -> Result<Items<u64>, NoMemory>
     Ok(Items::from_vec(numbers.to_vec(alloc)?))
 }
 
+/// The objects of a list, by number, of which each may be left out.
+fn maybe_objects(alloc: Global, numbers: &[u64]) -> Result<Items<Option<u64>>, NoMemory>
+    ensures { IfOk result (λ made. made ≡ map wide_of numbers.now) }
+{
+    let mut found = Items::new(alloc);
+    for number in numbers {
+        found.push(wide_of(*number))?;
+    }
+    Ok(found)
+}
+
 pub fn create_pipeline_layout(alloc: Global, layouts: &[u64]) -> Result<RequestOf<u64>, NoMemory>
-    ensures { IfOk result (λ made. made ≡ request.CreatePipelineLayout layouts.now) }
+    ensures { IfOk result (λ made. made ≡ request.CreatePipelineLayout (map wide_of layouts.now)) }
 {
     Ok(RequestOf::CreatePipelineLayout {
-        layouts: objects(alloc, layouts)?,
+        layouts: maybe_objects(alloc, layouts)?,
     })
 }
 

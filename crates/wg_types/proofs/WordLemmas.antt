@@ -4,7 +4,7 @@ use Rattle.wg_trace.specs.declared.steps.StepName.{StepName}
 use Rattle.wg_trace.specs.declared.steps.StepName.TheVariants as name
 use Rattle.wg_types.specs.Words.{word_text, word_of, IsSpelledAsItsCall}
 use Rattle.wg_types.specs.declared.words.Word.{Word}
-use Rattle.wg_types.specs.declared.words.Word.TheVariants.{CreateBuffer, CreateTexture, CreateView, CreateSampler, CreateBindGroupLayout, CreatePipelineLayout, CreateBindGroup, CreateComputePipeline, CreateRenderPipeline, GetBindGroupLayout, CreateQuerySet, CreateEncoder, CreateBundleEncoder, BeginComputePass, BeginRenderPass, End, Finish, FinishBundle, PushDebugGroup, PopDebugGroup, Submit, WriteBuffer, WriteTexture, MapAsync, Unmap, WorkDone, Complete, Destroy, Drop, PushErrorScope, PopErrorScope, Lose, CopyBufferToBuffer, CopyBufferToTexture, CopyTextureToBuffer, CopyTextureToTexture, ClearBuffer, ResolveQuerySet, SetPipeline, SetBindGroup, SetVertexBuffer, SetIndexBuffer, Dispatch, DispatchIndirect, BeginOcclusionQuery, EndOcclusionQuery, ExecuteBundles, Draw, DrawIndexed, DrawIndirect, DrawIndexedIndirect, CreateCanvas, ConfigureCanvas, CurrentTexture, Present}
+use Rattle.wg_types.specs.declared.words.Word.TheVariants.{CreateBuffer, CreateTexture, CreateView, CreateSampler, CreateBindGroupLayout, CreatePipelineLayout, CreateBindGroup, CreateComputePipeline, CreateRenderPipeline, GetBindGroupLayout, CreateQuerySet, CreateEncoder, CreateBundleEncoder, BeginComputePass, BeginRenderPass, End, Finish, FinishBundle, PushDebugGroup, PopDebugGroup, Submit, WriteBuffer, WriteTexture, MapAsync, Unmap, WorkDone, Complete, Destroy, Drop, PushErrorScope, PopErrorScope, Lose, CopyBufferToBuffer, CopyBufferToTexture, CopyTextureToBuffer, CopyTextureToTexture, ClearBuffer, ResolveQuerySet, SetPipeline, SetBindGroup, SetVertexBuffer, SetIndexBuffer, Dispatch, DispatchIndirect, BeginOcclusionQuery, EndOcclusionQuery, ExecuteBundles, Draw, DrawIndexed, DrawIndirect, DrawIndexedIndirect, SetViewport, SetScissorRect, SetBlendConstant, SetStencilReference, InsertDebugMarker, CreateCanvas, ConfigureCanvas, CurrentTexture, Present}
 
 pub text_names : (w : Word) → word_of (word_text w) ≡ Some w
 unfolding word_of
@@ -59,6 +59,11 @@ text_names Draw = refl
 text_names DrawIndexed = refl
 text_names DrawIndirect = refl
 text_names DrawIndexedIndirect = refl
+text_names SetViewport = refl
+text_names SetScissorRect = refl
+text_names SetBlendConstant = refl
+text_names SetStencilReference = refl
+text_names InsertDebugMarker = refl
 text_names CreateCanvas = refl
 text_names ConfigureCanvas = refl
 text_names CurrentTexture = refl

@@ -1,10 +1,10 @@
 -- Where commands may stand, which begin and end a pass, and the objects that they name (WebGPU, "Command Encoding", "Compute
 -- Passes", "Render Passes", "Programmable Passes", "Bundles" and "Debug Markers").
-use Rattle.std.specs.Prelude.{ℕ, Bool, true, false, List, [], ◌∷◌, map, Option, Some, None}
+use Rattle.std.specs.Prelude.{ℕ, Bool, true, false, List, [], ◌∷◌, map, Option, Some, None, option_map}
 use Rattle.std.specs.List.{list_any}
 use Rattle.wg_types.specs.Handles.{HandleValue}
 use Rattle.wg_types.specs.Render.{begin_named, map_begin}
-pub use Rattle.wg_types.specs.Refs.{first_of, all_wanted}
+pub use Rattle.wg_types.specs.Refs.{first_of, all_wanted, maybe_wanted}
 use Rattle.wg_types.specs.declared.wanted.Wanted.{Wanted}
 use Rattle.wg_types.specs.declared.wanted.Wanted.TheVariants as wanted
 use Rattle.wg_types.specs.declared.wanted.Kind.{Kind}
@@ -12,8 +12,9 @@ use Rattle.wg_types.specs.declared.wanted.Kind.TheVariants as kind
 use Rattle.wg_types.specs.Wanted.{is_wanted, within}
 use Rattle.wg_types.specs.declared.vertex.IndexFormat.{IndexFormat}
 use Rattle.wg_types.specs.declared.render.RenderBeginOf.{RenderBeginOf}
+use Rattle.wg_types.specs.declared.render.Viewport.{Viewport}
 pub use Rattle.wg_types.specs.declared.commands.CommandOf.{CommandOf}
-use Rattle.wg_types.specs.declared.commands.CommandOf.TheVariants.{BeginComputePass, BeginRenderPass, CopyBufferToBuffer, CopyBufferToTexture, CopyTextureToBuffer, CopyTextureToTexture, ClearBuffer, ResolveQuerySet, PushDebugGroup, PopDebugGroup, End, SetPipeline, SetBindGroup, Dispatch, DispatchIndirect, SetVertexBuffer, SetIndexBuffer, Draw, DrawIndexed, DrawIndirect, DrawIndexedIndirect, BeginOcclusionQuery, EndOcclusionQuery, ExecuteBundles}
+use Rattle.wg_types.specs.declared.commands.CommandOf.TheVariants.{BeginComputePass, BeginRenderPass, CopyBufferToBuffer, CopyBufferToTexture, CopyTextureToBuffer, CopyTextureToTexture, ClearBuffer, ResolveQuerySet, PushDebugGroup, PopDebugGroup, InsertDebugMarker, End, SetPipeline, SetBindGroup, Dispatch, DispatchIndirect, SetVertexBuffer, SetIndexBuffer, Draw, DrawIndexed, DrawIndirect, DrawIndexedIndirect, BeginOcclusionQuery, EndOcclusionQuery, ExecuteBundles, SetViewport, SetScissorRect, SetBlendConstant, SetStencilReference}
 use Rattle.wg_types.specs.declared.commands.Bracket.{Bracket}
 use Rattle.wg_types.specs.declared.commands.Bracket.TheVariants as brackets
 use Rattle.wg_types.specs.declared.commands.CommandPlace.{CommandPlace}
@@ -37,8 +38,9 @@ stands asked place = list_any (is_wanted asked) (serves_at place)
 
 -- what a command asks of what it stands on: an encoder for the begin of a pass, copies, clears and resolves of query sets; a
 -- pass for an end; a pass or a bundle encoder for what sets a pipeline or a bind group; a compute pass for dispatches; a
--- render pass or a bundle encoder for what sets a vertex or index buffer and for draws; a render pass for occlusion queries
--- and bundles that are executed; any of these for debug groups
+-- render pass or a bundle encoder for what sets a vertex or index buffer and for draws; a render pass for occlusion queries,
+-- bundles that are executed, and what sets the viewport, the scissor rectangle, the blend constant or the stencil reference;
+-- any of these for debug groups and markers
 abbrev pub place_wanted : {R : Type 0} → CommandOf R → Wanted
 place_wanted BeginComputePass = wanted.Encoder
 place_wanted (BeginRenderPass begin) = wanted.Encoder
@@ -50,6 +52,7 @@ place_wanted (ClearBuffer buffer offset size) = wanted.Encoder
 place_wanted (ResolveQuerySet queries first count buffer offset) = wanted.Encoder
 place_wanted PushDebugGroup = wanted.Recording
 place_wanted PopDebugGroup = wanted.Recording
+place_wanted InsertDebugMarker = wanted.Recording
 place_wanted End = wanted.Pass
 place_wanted (SetPipeline pipeline) = wanted.Binding
 place_wanted (SetBindGroup index group offsets) = wanted.Binding
@@ -64,6 +67,10 @@ place_wanted (DrawIndexedIndirect buffer offset) = wanted.Drawing
 place_wanted (BeginOcclusionQuery index) = wanted.RenderPass
 place_wanted EndOcclusionQuery = wanted.RenderPass
 place_wanted (ExecuteBundles bundles) = wanted.RenderPass
+place_wanted (SetViewport viewport) = wanted.RenderPass
+place_wanted (SetScissorRect x y width height) = wanted.RenderPass
+place_wanted SetBlendConstant = wanted.RenderPass
+place_wanted SetStencilReference = wanted.RenderPass
 
 -- whether a command may stand on a place of a kind
 abbrev pub fits : {R : Type 0} → CommandOf R → CommandPlace → Bool
@@ -81,6 +88,7 @@ bracket (ClearBuffer buffer offset size) = brackets.Neither
 bracket (ResolveQuerySet queries first count buffer offset) = brackets.Neither
 bracket PushDebugGroup = brackets.PushGroup
 bracket PopDebugGroup = brackets.PopGroup
+bracket InsertDebugMarker = brackets.Neither
 bracket End = brackets.EndPass
 bracket (SetPipeline pipeline) = brackets.Neither
 bracket (SetBindGroup index group offsets) = brackets.Neither
@@ -95,6 +103,10 @@ bracket (DrawIndexedIndirect buffer offset) = brackets.Neither
 bracket (BeginOcclusionQuery index) = brackets.Neither
 bracket EndOcclusionQuery = brackets.Neither
 bracket (ExecuteBundles bundles) = brackets.Neither
+bracket (SetViewport viewport) = brackets.Neither
+bracket (SetScissorRect x y width height) = brackets.Neither
+bracket SetBlendConstant = brackets.Neither
+bracket SetStencilReference = brackets.Neither
 
 -- the kind of the pass that a command begins, if it begins one
 abbrev pub kind_begun_by : Bracket → Option Kind
@@ -135,12 +147,17 @@ ends_pass_by brackets.Neither = false
 abbrev pub is_end : {R : Type 0} → CommandOf R → Bool
 is_end command = ends_pass_by (bracket command)
 
--- What a command sets for those that come after it in the same pass.
+-- What a command sets for those that come after it in the same pass. A group or a vertex buffer that is none unsets what is set
+-- at its index or slot. A viewport and a scissor rectangle are looked at as they are set; the blend constant and the stencil
+-- reference, at which no rule looks, are one.
 pub data Setting (R : Type 0) : Type 0 where
   set_pipeline : (pipeline : R) → Setting R
-  set_group : (index : ℕ) (group : R) (offsets : List ℕ) → Setting R
-  set_vertex_buffer : (slot : ℕ) (buffer : R) (offset : ℕ) (size : Option ℕ) → Setting R
+  set_group : (index : ℕ) (group : Option R) (offsets : List ℕ) → Setting R
+  set_vertex_buffer : (slot : ℕ) (buffer : Option R) (offset : ℕ) (size : Option ℕ) → Setting R
   set_index_buffer : (buffer : R) (format : IndexFormat) (offset : ℕ) (size : Option ℕ) → Setting R
+  set_viewport : (viewport : Viewport) → Setting R
+  set_scissor : (x y width height : ℕ) → Setting R
+  set_unread : Setting R
 
 -- What a command dispatches or draws.
 pub data Running (R : Type 0) : Type 0 where
@@ -178,6 +195,7 @@ act (ClearBuffer buffer offset size) = neither
 act (ResolveQuerySet queries first count buffer offset) = neither
 act PushDebugGroup = neither
 act PopDebugGroup = neither
+act InsertDebugMarker = neither
 act End = neither
 act (SetPipeline pipeline) = sets (set_pipeline pipeline)
 act (SetBindGroup index group offsets) = sets (set_group index group offsets)
@@ -192,6 +210,10 @@ act (DrawIndexedIndirect buffer offset) = runs (draw_indexed_indirect buffer off
 act (BeginOcclusionQuery index) = occludes (begin_occlusion index)
 act EndOcclusionQuery = occludes end_occlusion
 act (ExecuteBundles bundles) = executes bundles
+act (SetViewport viewport) = sets (set_viewport viewport)
+act (SetScissorRect x y width height) = sets (set_scissor x y width height)
+act SetBlendConstant = sets set_unread
+act SetStencilReference = sets set_unread
 
 -- what the render pass begins with that a command begins, if it begins one
 abbrev pub begin_in : {R : Type 0} → Act R → Option (RenderBeginOf R)
@@ -208,7 +230,7 @@ render_begun command = begin_in (act command)
 
 -- the objects that a command names, in the order of its keys, each with the kind that it has to be of: of a copy the source
 -- and then the target, of a beginRenderPass the views that it attaches and then its query set, of a resolveQuerySet the query
--- set and then the buffer
+-- set and then the buffer; a bind group or a vertex buffer that is none is not named
 abbrev pub named : {R : Type 0} → CommandOf R → List (R × Wanted)
 named BeginComputePass = []
 named (BeginRenderPass begin) = begin_named begin
@@ -220,12 +242,13 @@ named (ClearBuffer buffer offset size) = (buffer, wanted.Buffer) ∷ []
 named (ResolveQuerySet queries first count buffer offset) = (queries, wanted.Queries) ∷ (buffer, wanted.Buffer) ∷ []
 named PushDebugGroup = []
 named PopDebugGroup = []
+named InsertDebugMarker = []
 named End = []
 named (SetPipeline pipeline) = (pipeline, wanted.Pipeline) ∷ []
-named (SetBindGroup index group offsets) = (group, wanted.Group) ∷ []
+named (SetBindGroup index group offsets) = maybe_wanted wanted.Group group
 named (Dispatch x y z) = []
 named (DispatchIndirect buffer offset) = (buffer, wanted.Buffer) ∷ []
-named (SetVertexBuffer slot buffer offset size) = (buffer, wanted.Buffer) ∷ []
+named (SetVertexBuffer slot buffer offset size) = maybe_wanted wanted.Buffer buffer
 named (SetIndexBuffer buffer format offset size) = (buffer, wanted.Buffer) ∷ []
 named (Draw vertices instances first_vertex first_instance) = []
 named (DrawIndexed indices instances first_index first_instance) = []
@@ -234,6 +257,10 @@ named (DrawIndexedIndirect buffer offset) = (buffer, wanted.Buffer) ∷ []
 named (BeginOcclusionQuery index) = []
 named EndOcclusionQuery = []
 named (ExecuteBundles bundles) = all_wanted wanted.Bundle bundles
+named (SetViewport viewport) = []
+named (SetScissorRect x y width height) = []
+named SetBlendConstant = []
+named SetStencilReference = []
 
 -- the objects that a command on something of a kind names, where a pipeline has to be one of such passes
 abbrev pub named_on : {R : Type 0} → Kind → CommandOf R → List (R × Wanted)
@@ -251,12 +278,13 @@ map_refs f (ClearBuffer buffer offset size) = ClearBuffer (f buffer) offset size
 map_refs f (ResolveQuerySet queries first count buffer offset) = ResolveQuerySet (f queries) first count (f buffer) offset
 map_refs f PushDebugGroup = PushDebugGroup
 map_refs f PopDebugGroup = PopDebugGroup
+map_refs f InsertDebugMarker = InsertDebugMarker
 map_refs f End = End
 map_refs f (SetPipeline pipeline) = SetPipeline (f pipeline)
-map_refs f (SetBindGroup index group offsets) = SetBindGroup index (f group) offsets
+map_refs f (SetBindGroup index group offsets) = SetBindGroup index (option_map f group) offsets
 map_refs f (Dispatch x y z) = Dispatch x y z
 map_refs f (DispatchIndirect buffer offset) = DispatchIndirect (f buffer) offset
-map_refs f (SetVertexBuffer slot buffer offset size) = SetVertexBuffer slot (f buffer) offset size
+map_refs f (SetVertexBuffer slot buffer offset size) = SetVertexBuffer slot (option_map f buffer) offset size
 map_refs f (SetIndexBuffer buffer format offset size) = SetIndexBuffer (f buffer) format offset size
 map_refs f (Draw vertices instances first_vertex first_instance) = Draw vertices instances first_vertex first_instance
 map_refs f (DrawIndexed indices instances first_index first_instance) = DrawIndexed indices instances first_index first_instance
@@ -265,3 +293,7 @@ map_refs f (DrawIndexedIndirect buffer offset) = DrawIndexedIndirect (f buffer) 
 map_refs f (BeginOcclusionQuery index) = BeginOcclusionQuery index
 map_refs f EndOcclusionQuery = EndOcclusionQuery
 map_refs f (ExecuteBundles bundles) = ExecuteBundles (map f bundles)
+map_refs f (SetViewport viewport) = SetViewport viewport
+map_refs f (SetScissorRect x y width height) = SetScissorRect x y width height
+map_refs f SetBlendConstant = SetBlendConstant
+map_refs f SetStencilReference = SetStencilReference

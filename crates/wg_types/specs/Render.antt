@@ -46,4 +46,4 @@ map_depth f target =
 
 -- the begin of a render pass with other views and another query set
 abbrev pub map_begin : {R S : Type 0} → (R → S) → RenderBeginOf R → RenderBeginOf S
-map_begin f begin = record { colors = map (option_map (map_color f)) begin.colors; depth = option_map (map_depth f) begin.depth; queries = option_map f begin.queries }
+map_begin f begin = record { colors = map (option_map (map_color f)) begin.colors; depth = option_map (map_depth f) begin.depth; queries = option_map f begin.queries; max_draws = begin.max_draws }

@@ -1,7 +1,7 @@
 -- What calls of a device name and make.
 use Rattle.std.specs.Prelude.{List, [], ◌∷◌, map, Option, Some, None, option_map}
 use Rattle.wg_types.specs.Bindings.{entries_named, map_entry}
-use Rattle.wg_types.specs.Refs.{all_wanted, maybe_wanted}
+use Rattle.wg_types.specs.Refs.{all_wanted, some_wanted, maybe_wanted}
 use Rattle.wg_types.specs.declared.wanted.Kind.{Kind}
 use Rattle.wg_types.specs.declared.wanted.Kind.TheVariants as kind
 use Rattle.wg_types.specs.declared.wanted.Wanted.{Wanted}
@@ -46,7 +46,7 @@ named (CreateTexture info) = []
 named (CreateView texture asked) = (texture, wanted.Texture) ∷ []
 named (CreateSampler known) = []
 named (CreateBindGroupLayout entries) = []
-named (CreatePipelineLayout layouts) = all_wanted wanted.GroupLayout layouts
+named (CreatePipelineLayout layouts) = some_wanted wanted.GroupLayout layouts
 named (CreateBindGroup layout entries) = (layout, wanted.GroupLayout) ∷ entries_named entries
 named (CreateComputePipeline layout iface) = maybe_wanted wanted.PipelineLayout layout
 named (CreateRenderPipeline layout desc) = maybe_wanted wanted.PipelineLayout layout
@@ -76,7 +76,7 @@ map_refs f (CreateTexture info) = CreateTexture info
 map_refs f (CreateView texture asked) = CreateView (f texture) asked
 map_refs f (CreateSampler known) = CreateSampler known
 map_refs f (CreateBindGroupLayout entries) = CreateBindGroupLayout entries
-map_refs f (CreatePipelineLayout layouts) = CreatePipelineLayout (map f layouts)
+map_refs f (CreatePipelineLayout layouts) = CreatePipelineLayout (map (option_map f) layouts)
 map_refs f (CreateBindGroup layout entries) = CreateBindGroup (f layout) (map (map_entry f) entries)
 map_refs f (CreateComputePipeline layout iface) = CreateComputePipeline (option_map f layout) iface
 map_refs f (CreateRenderPipeline layout desc) = CreateRenderPipeline (option_map f layout) desc

@@ -7,7 +7,7 @@ use Rattle.wg_trace.specs.StepNames.{step_name_text}
 use Rattle.wg_types.specs.declared.words.Verb.{Verb}
 use Rattle.wg_types.specs.declared.words.Verb.TheVariants.{Call, Late}
 use Rattle.wg_types.specs.declared.words.Word.{Word}
-use Rattle.wg_types.specs.declared.words.Word.TheVariants.{CreateBuffer, CreateTexture, CreateView, CreateSampler, CreateBindGroupLayout, CreatePipelineLayout, CreateBindGroup, CreateComputePipeline, CreateRenderPipeline, GetBindGroupLayout, CreateQuerySet, CreateEncoder, CreateBundleEncoder, BeginComputePass, BeginRenderPass, End, Finish, FinishBundle, PushDebugGroup, PopDebugGroup, Submit, WriteBuffer, WriteTexture, MapAsync, Unmap, WorkDone, Complete, Destroy, Drop, PushErrorScope, PopErrorScope, Lose, CopyBufferToBuffer, CopyBufferToTexture, CopyTextureToBuffer, CopyTextureToTexture, ClearBuffer, ResolveQuerySet, SetPipeline, SetBindGroup, SetVertexBuffer, SetIndexBuffer, Dispatch, DispatchIndirect, BeginOcclusionQuery, EndOcclusionQuery, ExecuteBundles, Draw, DrawIndexed, DrawIndirect, DrawIndexedIndirect, CreateCanvas, ConfigureCanvas, CurrentTexture, Present}
+use Rattle.wg_types.specs.declared.words.Word.TheVariants.{CreateBuffer, CreateTexture, CreateView, CreateSampler, CreateBindGroupLayout, CreatePipelineLayout, CreateBindGroup, CreateComputePipeline, CreateRenderPipeline, GetBindGroupLayout, CreateQuerySet, CreateEncoder, CreateBundleEncoder, BeginComputePass, BeginRenderPass, End, Finish, FinishBundle, PushDebugGroup, PopDebugGroup, Submit, WriteBuffer, WriteTexture, MapAsync, Unmap, WorkDone, Complete, Destroy, Drop, PushErrorScope, PopErrorScope, Lose, CopyBufferToBuffer, CopyBufferToTexture, CopyTextureToBuffer, CopyTextureToTexture, ClearBuffer, ResolveQuerySet, SetPipeline, SetBindGroup, SetVertexBuffer, SetIndexBuffer, Dispatch, DispatchIndirect, BeginOcclusionQuery, EndOcclusionQuery, ExecuteBundles, Draw, DrawIndexed, DrawIndirect, DrawIndexedIndirect, SetViewport, SetScissorRect, SetBlendConstant, SetStencilReference, InsertDebugMarker, CreateCanvas, ConfigureCanvas, CurrentTexture, Present}
 
 -- the text of a word
 abbrev pub word_text : Word → List ℕ
@@ -62,6 +62,11 @@ word_text Draw = codes "draw"
 word_text DrawIndexed = codes "drawIndexed"
 word_text DrawIndirect = codes "drawIndirect"
 word_text DrawIndexedIndirect = codes "drawIndexedIndirect"
+word_text SetViewport = codes "setViewport"
+word_text SetScissorRect = codes "setScissorRect"
+word_text SetBlendConstant = codes "setBlendConstant"
+word_text SetStencilReference = codes "setStencilReference"
+word_text InsertDebugMarker = codes "insertDebugMarker"
 word_text CreateCanvas = codes "createCanvas"
 word_text ConfigureCanvas = codes "configureCanvas"
 word_text CurrentTexture = codes "currentTexture"
@@ -77,6 +82,7 @@ words =
     CopyBufferToBuffer ∷ CopyBufferToTexture ∷ CopyTextureToBuffer ∷ CopyTextureToTexture ∷ ClearBuffer ∷ ResolveQuerySet ∷
     SetPipeline ∷ SetBindGroup ∷ SetVertexBuffer ∷ SetIndexBuffer ∷ Dispatch ∷ DispatchIndirect ∷ BeginOcclusionQuery ∷ EndOcclusionQuery ∷ ExecuteBundles ∷
     Draw ∷ DrawIndexed ∷ DrawIndirect ∷ DrawIndexedIndirect ∷
+    SetViewport ∷ SetScissorRect ∷ SetBlendConstant ∷ SetStencilReference ∷ InsertDebugMarker ∷
     CreateCanvas ∷ ConfigureCanvas ∷ CurrentTexture ∷ Present ∷ []
 
 -- the call that a text names

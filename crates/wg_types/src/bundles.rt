@@ -23,11 +23,12 @@ pub struct BundleTouch {
 }
 
 /// What is known of a bundle (WebGPU, "GPURenderBundle"): to what it draws, the objects that its commands
-/// name, as they come, and what it touches, in printed form for each way of use. A buffer of which it reads
-/// no byte is touched by a run without cells.
+/// name, as they come, what it touches, in printed form for each way of use, and how often it draws. A buffer
+/// of which it reads no byte is touched by a run without cells.
 #[derive(Clone, Drop)]
 pub struct BundleInfo {
     pub targets: TargetInfo,
     pub named: Items<ObjRef>,
     pub touches: Items<BundleTouch>,
+    pub draws: u64,
 }

@@ -8,7 +8,7 @@ use crate::NoMemory;
 use crate::handles::Handle;
 use crate::items::Items;
 use crate::refs::{self, Ask, Find, Gather, Test, Tested};
-use crate::render::RenderBeginOf;
+use crate::render::{RenderBeginOf, Viewport};
 use crate::shared::Shared;
 use crate::textures::{DataLayout, TextureSpot};
 use crate::vertex::IndexFormat;
@@ -50,7 +50,9 @@ pub enum Bracket {
 /// from texture to texture copies all aspects. Dynamic offsets stand in the order of the bindings' numbers,
 /// and a dispatch has a count of workgroups in each dimension (WebGPU, "Compute Passes"). Vertex buffers
 /// are set by slot, and a draw goes over a range of vertices or indexes, and of instances (WebGPU,
-/// "GPURenderCommandsMixin"). Queries are named by their indexes in the query set of the render pass, or, to
+/// "GPURenderCommandsMixin"). A bind group or a vertex buffer that is none unsets what is set there. What a
+/// scissor rectangle has is in texels (WebGPU, "Rasterization state"); the blend constant and the stencil
+/// reference are not kept, since no rule hangs on them. Queries are named by their indexes in the query set of the render pass, or, to
 /// be resolved, from the first on (WebGPU, "Queries").
 #[derive(Drop)]
 pub enum CommandOf<R> {
@@ -102,13 +104,14 @@ pub enum CommandOf<R> {
     },
     PushDebugGroup,
     PopDebugGroup,
+    InsertDebugMarker,
     End,
     SetPipeline {
         pipeline: R,
     },
     SetBindGroup {
         index: u32,
-        group: R,
+        group: Option<R>,
         offsets: Shared<Items<u32>>,
     },
     Dispatch {
@@ -122,7 +125,7 @@ pub enum CommandOf<R> {
     },
     SetVertexBuffer {
         slot: u32,
-        buffer: R,
+        buffer: Option<R>,
         offset: u64,
         size: Option<u64>,
     },
@@ -159,6 +162,17 @@ pub enum CommandOf<R> {
     ExecuteBundles {
         bundles: Items<R>,
     },
+    SetViewport {
+        viewport: Viewport,
+    },
+    SetScissorRect {
+        x: u32,
+        y: u32,
+        width: u32,
+        height: u32,
+    },
+    SetBlendConstant,
+    SetStencilReference,
 }
 
 /// A command as its caller holds its objects.
@@ -201,7 +215,8 @@ impl<R> CommandOf<R> {
         ensures { result ≡ place_wanted self.now }
     {
         match self {
-            CommandOf::PushDebugGroup | CommandOf::PopDebugGroup => Wanted::Recording,
+            CommandOf::PushDebugGroup | CommandOf::PopDebugGroup | CommandOf::InsertDebugMarker =>
+                Wanted::Recording,
             CommandOf::End => Wanted::Pass,
             CommandOf::SetPipeline { .. } | CommandOf::SetBindGroup { .. } => Wanted::Binding,
             CommandOf::Dispatch { .. } | CommandOf::DispatchIndirect { .. } => Wanted::ComputePass,
@@ -213,7 +228,11 @@ impl<R> CommandOf<R> {
             | CommandOf::DrawIndexedIndirect { .. } => Wanted::Drawing,
             CommandOf::BeginOcclusionQuery { .. }
             | CommandOf::EndOcclusionQuery
-            | CommandOf::ExecuteBundles { .. } => Wanted::RenderPass,
+            | CommandOf::ExecuteBundles { .. }
+            | CommandOf::SetViewport { .. }
+            | CommandOf::SetScissorRect { .. }
+            | CommandOf::SetBlendConstant
+            | CommandOf::SetStencilReference => Wanted::RenderPass,
             _ => Wanted::Encoder,
         }
     }
@@ -301,10 +320,10 @@ impl<R> CommandOf<R> {
             }
             CommandOf::ClearBuffer { buffer, .. }
             | CommandOf::DispatchIndirect { buffer, .. }
-            | CommandOf::SetVertexBuffer { buffer, .. }
             | CommandOf::SetIndexBuffer { buffer, .. }
             | CommandOf::DrawIndirect { buffer, .. }
             | CommandOf::DrawIndexedIndirect { buffer, .. } => asked.ask(buffer, Wanted::Buffer),
+            CommandOf::SetVertexBuffer { buffer, .. } => refs::maybe(asked, buffer, Wanted::Buffer),
             CommandOf::ResolveQuerySet {
                 queries,
                 buffer,
@@ -314,7 +333,7 @@ impl<R> CommandOf<R> {
                 refs::each(asked, bundles.as_slice(), Wanted::Bundle)
             }
             CommandOf::SetPipeline { pipeline } => asked.ask(pipeline, Wanted::Pipeline),
-            CommandOf::SetBindGroup { group, .. } => asked.ask(group, Wanted::Group),
+            CommandOf::SetBindGroup { group, .. } => refs::maybe(asked, group, Wanted::Group),
             _ => None,
         }
     }
@@ -373,11 +392,13 @@ impl<R> CommandOf<R> {
             }
             CommandOf::ClearBuffer { buffer, .. }
             | CommandOf::DispatchIndirect { buffer, .. }
-            | CommandOf::SetVertexBuffer { buffer, .. }
             | CommandOf::SetIndexBuffer { buffer, .. }
             | CommandOf::DrawIndirect { buffer, .. }
             | CommandOf::DrawIndexedIndirect { buffer, .. } => {
                 refs::gather_one(gather, found, buffer, Wanted::Buffer)
+            }
+            CommandOf::SetVertexBuffer { buffer, .. } => {
+                refs::gather_maybe(gather, found, buffer, Wanted::Buffer)
             }
             CommandOf::ResolveQuerySet {
                 queries,
@@ -396,7 +417,7 @@ impl<R> CommandOf<R> {
                 refs::gather_one(gather, found, pipeline, Wanted::Pipeline)
             }
             CommandOf::SetBindGroup { group, .. } => {
-                refs::gather_one(gather, found, group, Wanted::Group)
+                refs::gather_maybe(gather, found, group, Wanted::Group)
             }
             _ => Ok(()),
         }
@@ -510,6 +531,7 @@ impl<R> CommandOf<R> {
             }
             CommandOf::PushDebugGroup => Ok(CommandOf::PushDebugGroup),
             CommandOf::PopDebugGroup => Ok(CommandOf::PopDebugGroup),
+            CommandOf::InsertDebugMarker => Ok(CommandOf::InsertDebugMarker),
             CommandOf::End => Ok(CommandOf::End),
             CommandOf::SetPipeline { pipeline } => Ok(CommandOf::SetPipeline {
                 pipeline: find.find(pipeline)?,
@@ -520,7 +542,7 @@ impl<R> CommandOf<R> {
                 offsets,
             } => Ok(CommandOf::SetBindGroup {
                 index: *index,
-                group: find.find(group)?,
+                group: refs::map_maybe(find, group)?,
                 offsets: offsets.share()?,
             }),
             CommandOf::Dispatch { x, y, z } => Ok(CommandOf::Dispatch {
@@ -539,7 +561,7 @@ impl<R> CommandOf<R> {
                 size,
             } => Ok(CommandOf::SetVertexBuffer {
                 slot: *slot,
-                buffer: find.find(buffer)?,
+                buffer: refs::map_maybe(find, buffer)?,
                 offset: *offset,
                 size: *size,
             }),
@@ -593,6 +615,22 @@ impl<R> CommandOf<R> {
             CommandOf::ExecuteBundles { bundles } => Ok(CommandOf::ExecuteBundles {
                 bundles: refs::map_items(alloc, find, bundles.as_slice())?,
             }),
+            CommandOf::SetViewport { viewport } => Ok(CommandOf::SetViewport {
+                viewport: *viewport,
+            }),
+            CommandOf::SetScissorRect {
+                x,
+                y,
+                width,
+                height,
+            } => Ok(CommandOf::SetScissorRect {
+                x: *x,
+                y: *y,
+                width: *width,
+                height: *height,
+            }),
+            CommandOf::SetBlendConstant => Ok(CommandOf::SetBlendConstant),
+            CommandOf::SetStencilReference => Ok(CommandOf::SetStencilReference),
         }
     }
 }

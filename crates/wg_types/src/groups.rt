@@ -15,7 +15,8 @@ pub struct GroupLayoutInfo {
     pub pipeline: Option<ObjRef>,
 }
 
-/// What a pipeline layout was made with (WebGPU, "GPUPipelineLayout"): the layout of each group.
+/// What a pipeline layout was made with (WebGPU, "GPUPipelineLayout"): the layouts of groups that it names, and
+/// what is known of the layout of each group, where a layout that was null has no entries.
 #[derive(Clone, Drop)]
 pub struct PipelineLayoutInfo {
     pub layouts: Items<ObjRef>,

@@ -83,14 +83,30 @@ pub struct DepthTargetOf<R> {
     pub stencil_read_only: bool,
 }
 
+/// A viewport (WebGPU, "setViewport()"). Each number stands for itself over 65536. It begins `x` to the right
+/// of the left edge of what is attached, or where `left` is set to the left of it, and so `y` downwards, or
+/// where `above` is set upwards.
+#[derive(Clone, Copy, PartialEq, Eq)]
+pub struct Viewport {
+    pub x: u64,
+    pub left: bool,
+    pub y: u64,
+    pub above: bool,
+    pub width: u64,
+    pub height: u64,
+    pub min_depth: u64,
+    pub max_depth: u64,
+}
+
 /// What a render pass begins with, with views and the query set as `R` (WebGPU, "GPURenderPassDescriptor").
 /// Color attachments stand by slot, some of which may be left out. The occlusion queries of the pass are
-/// those of the query set.
+/// those of the query set. It may draw `max_draws` times, or as often as it will where that is left out.
 #[derive(Drop)]
 pub struct RenderBeginOf<R> {
     pub colors: Items<Option<ColorTargetOf<R>>>,
     pub depth: Option<DepthTargetOf<R>>,
     pub queries: Option<R>,
+    pub max_draws: Option<u64>,
 }
 
 impl<R> RenderBeginOf<R> {
@@ -128,6 +144,7 @@ impl<R> RenderBeginOf<R> {
             colors: found_colors(alloc, find, self.colors.as_slice())?,
             depth: found_depth(find, &self.depth)?,
             queries: refs::map_maybe(find, &self.queries)?,
+            max_draws: self.max_draws,
         })
     }
 }

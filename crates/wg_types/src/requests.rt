@@ -17,7 +17,7 @@ use crate::wanted::{Kind, Wanted};
 use std::alloc::Global;
 
 /// One call of a device, with the objects that it names as `R`. A pipeline with no layout derives one
-/// itself.
+/// itself; a layout of a pipeline layout that is none asks for no binding.
 #[derive(Drop)]
 pub enum RequestOf<R> {
     CreateBuffer {
@@ -37,7 +37,7 @@ pub enum RequestOf<R> {
         entries: Shared<Items<LayoutEntry>>,
     },
     CreatePipelineLayout {
-        layouts: Items<R>,
+        layouts: Items<Option<R>>,
     },
     CreateBindGroup {
         layout: R,
@@ -141,7 +141,7 @@ impl<R> RequestOf<R> {
         match self {
             RequestOf::CreateView { texture, .. } => asked.ask(texture, Wanted::Texture),
             RequestOf::CreatePipelineLayout { layouts } => {
-                refs::each(asked, layouts.as_slice(), Wanted::GroupLayout)
+                refs::each_maybe(asked, layouts.as_slice(), Wanted::GroupLayout)
             }
             RequestOf::CreateBindGroup { layout, entries } => {
                 if let Some(found) = asked.ask(layout, Wanted::GroupLayout) {
@@ -189,7 +189,7 @@ impl<R> RequestOf<R> {
                 entries: entries.share()?,
             }),
             RequestOf::CreatePipelineLayout { layouts } => Ok(RequestOf::CreatePipelineLayout {
-                layouts: refs::map_items(alloc, find, layouts.as_slice())?,
+                layouts: refs::map_maybes(alloc, find, layouts.as_slice())?,
             }),
             RequestOf::CreateBindGroup { layout, entries } => Ok(RequestOf::CreateBindGroup {
                 layout: find.find(layout)?,

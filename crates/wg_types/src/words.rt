@@ -58,6 +58,11 @@ pub enum Word {
     DrawIndexed,
     DrawIndirect,
     DrawIndexedIndirect,
+    SetViewport,
+    SetScissorRect,
+    SetBlendConstant,
+    SetStencilReference,
+    InsertDebugMarker,
     CreateCanvas,
     ConfigureCanvas,
     CurrentTexture,
@@ -65,7 +70,7 @@ pub enum Word {
 }
 
 /// The calls that a script may name.
-const WORDS: [Word; 55] = [
+const WORDS: [Word; 60] = [
     Word::CreateBuffer,
     Word::CreateTexture,
     Word::CreateView,
@@ -117,6 +122,11 @@ const WORDS: [Word; 55] = [
     Word::DrawIndexed,
     Word::DrawIndirect,
     Word::DrawIndexedIndirect,
+    Word::SetViewport,
+    Word::SetScissorRect,
+    Word::SetBlendConstant,
+    Word::SetStencilReference,
+    Word::InsertDebugMarker,
     Word::CreateCanvas,
     Word::ConfigureCanvas,
     Word::CurrentTexture,
@@ -180,6 +190,11 @@ impl Word {
             Word::DrawIndexed => "drawIndexed",
             Word::DrawIndirect => "drawIndirect",
             Word::DrawIndexedIndirect => "drawIndexedIndirect",
+            Word::SetViewport => "setViewport",
+            Word::SetScissorRect => "setScissorRect",
+            Word::SetBlendConstant => "setBlendConstant",
+            Word::SetStencilReference => "setStencilReference",
+            Word::InsertDebugMarker => "insertDebugMarker",
             Word::CreateCanvas => "createCanvas",
             Word::ConfigureCanvas => "configureCanvas",
             Word::CurrentTexture => "currentTexture",

@@ -105,6 +105,18 @@ fn write(device: &mut Device, texture: u64) -> Result<(), Error> {
     Ok(())
 }
 
+/// What a pass draws from here on is drawn to the upper half alone.
+fn keep_to_upper_half(device: &mut Device, encoder: u64, pass: u32) -> Result<(), Error> {
+    let viewport = Viewport {
+        width: 4 * FIXED_ONE,
+        height: 2 * FIXED_ONE,
+        ..Viewport::default()
+    };
+    device.set_viewport(encoder, pass, &viewport)?;
+    device.set_scissor_rect(encoder, pass, 0, 0, 4, 2)?;
+    Ok(())
+}
+
 /// Records the pass and the copy, and submits them. Gives the number of the operation.
 fn draw(device: &mut Device, target: u64, color: u64, drawn: (u64, u64), read: u64) -> Result<u64, Error> {
     let reply = device.create_encoder()?;
@@ -120,7 +132,8 @@ fn draw(device: &mut Device, target: u64, color: u64, drawn: (u64, u64), read: u
         view: NONE,
         ..Depth::default()
     };
-    let (pass, _) = device.begin_render_pass(encoder, &[color], &depth, NONE)?;
+    let (pass, _) = device.begin_render_pass(encoder, &[color], &depth, NONE, NONE)?;
+    keep_to_upper_half(device, encoder, pass)?;
     device.set_pipeline(encoder, pass, drawn.0)?;
     device.set_bind_group(encoder, pass, 0, drawn.1, &[])?;
     device.draw(encoder, pass, 3, 1, 0, 0)?;

@@ -125,6 +125,21 @@ impl Default for Depth {
     }
 }
 
+impl Default for Viewport {
+    fn default() -> Self {
+        Self {
+            x: 0,
+            y: 0,
+            width: 0,
+            height: 0,
+            min_depth: 0,
+            max_depth: FIXED_ONE,
+            left: 0,
+            above: 0,
+        }
+    }
+}
+
 impl Default for TexelLayout {
     fn default() -> Self {
         Self {

@@ -220,7 +220,7 @@ impl Device {
         told(|out| unsafe { raw::wethlorn_create_bind_group_layout(&mut self.raw, entries.as_ptr(), entries.len(), out) })
     }
 
-    /// Makes a pipeline layout of bind group layouts (createPipelineLayout).
+    /// Makes a pipeline layout of bind group layouts (createPipelineLayout), of which each may be NONE, which is null.
     pub fn create_pipeline_layout(&mut self, layouts: &[u64]) -> Result<Reply, Error> {
         told(|out| unsafe { raw::wethlorn_create_pipeline_layout(&mut self.raw, layouts.as_ptr(), layouts.len(), out) })
     }
@@ -351,16 +351,26 @@ impl Device {
         begun(|out| unsafe { raw::wethlorn_begin_compute_pass(&mut self.raw, encoder, out) })
     }
 
-    /// Begins a render pass (beginRenderPass); `out->pass` is its number. `colors` stand by slot. `queries` is the query set of its occlusion queries, or NONE.
+    /// Begins a render pass (beginRenderPass); `out->pass` is its number. `colors` stand by slot. `queries` is the query set of its occlusion queries, or NONE. `max_draws` is how often it may draw (maxDrawCount), or NONE.
     pub fn begin_render_pass(
         &mut self,
         encoder: u64,
         colors: &[Color],
         depth: &Depth,
         queries: u64,
+        max_draws: u64,
     ) -> Result<(u32, Reply), Error> {
         begun(|out| unsafe {
-            raw::wethlorn_begin_render_pass(&mut self.raw, encoder, colors.as_ptr(), colors.len(), depth, queries, out)
+            raw::wethlorn_begin_render_pass(
+                &mut self.raw,
+                encoder,
+                colors.as_ptr(),
+                colors.len(),
+                depth,
+                queries,
+                max_draws,
+                out,
+            )
         })
     }
 
@@ -377,6 +387,11 @@ impl Device {
     /// Closes the debug group that was opened last (popDebugGroup).
     pub fn pop_debug_group(&mut self, encoder: u64, pass: u32) -> Result<Reply, Error> {
         told(|out| unsafe { raw::wethlorn_pop_debug_group(&mut self.raw, encoder, pass, out) })
+    }
+
+    /// Marks a place of an encoder, a pass or a bundle encoder (insertDebugMarker).
+    pub fn insert_debug_marker(&mut self, encoder: u64, pass: u32) -> Result<Reply, Error> {
+        told(|out| unsafe { raw::wethlorn_insert_debug_marker(&mut self.raw, encoder, pass, out) })
     }
 
     /// Records a copy of bytes (copyBufferToBuffer).
@@ -422,7 +437,8 @@ impl Device {
         told(|out| unsafe { raw::wethlorn_set_pipeline(&mut self.raw, encoder, pass, pipeline, out) })
     }
 
-    /// Sets a bind group of a pass or a bundle (setBindGroup), with an offset for each of its dynamic buffers.
+    /// Sets a bind group of a pass or a bundle (setBindGroup), with an offset for each of its dynamic buffers. `group` may be NONE, which is
+    /// null and unsets the one that is set.
     pub fn set_bind_group(&mut self, encoder: u64, pass: u32, index: u32, group: u64, offsets: &[u32]) -> Result<Reply, Error> {
         told(|out| unsafe {
             raw::wethlorn_set_bind_group(
@@ -448,7 +464,7 @@ impl Device {
         told(|out| unsafe { raw::wethlorn_dispatch_indirect(&mut self.raw, encoder, pass, buffer, offset, out) })
     }
 
-    /// Sets a vertex buffer (setVertexBuffer). `size` may be NONE.
+    /// Sets a vertex buffer (setVertexBuffer). `size` may be NONE. `buffer` may be NONE, which is null and unsets the one that is set.
     pub fn set_vertex_buffer(
         &mut self,
         encoder: u64,
@@ -530,6 +546,26 @@ impl Device {
     /// Records an indexed draw whose numbers stand in a buffer (drawIndexedIndirect).
     pub fn draw_indexed_indirect(&mut self, encoder: u64, pass: u32, buffer: u64, offset: u64) -> Result<Reply, Error> {
         told(|out| unsafe { raw::wethlorn_draw_indexed_indirect(&mut self.raw, encoder, pass, buffer, offset, out) })
+    }
+
+    /// Sets the viewport of a render pass (setViewport).
+    pub fn set_viewport(&mut self, encoder: u64, pass: u32, viewport: &Viewport) -> Result<Reply, Error> {
+        told(|out| unsafe { raw::wethlorn_set_viewport(&mut self.raw, encoder, pass, viewport, out) })
+    }
+
+    /// Sets the scissor rectangle of a render pass (setScissorRect), in texels.
+    pub fn set_scissor_rect(&mut self, encoder: u64, pass: u32, x: u32, y: u32, width: u32, height: u32) -> Result<Reply, Error> {
+        told(|out| unsafe { raw::wethlorn_set_scissor_rect(&mut self.raw, encoder, pass, x, y, width, height, out) })
+    }
+
+    /// Sets the blend constant of a render pass (setBlendConstant). The color is no matter of this call.
+    pub fn set_blend_constant(&mut self, encoder: u64, pass: u32) -> Result<Reply, Error> {
+        told(|out| unsafe { raw::wethlorn_set_blend_constant(&mut self.raw, encoder, pass, out) })
+    }
+
+    /// Sets the stencil reference of a render pass (setStencilReference). The reference is no matter of this call.
+    pub fn set_stencil_reference(&mut self, encoder: u64, pass: u32) -> Result<Reply, Error> {
+        told(|out| unsafe { raw::wethlorn_set_stencil_reference(&mut self.raw, encoder, pass, out) })
     }
 
     /// Begins an occlusion query (beginOcclusionQuery).

@@ -189,11 +189,13 @@ extern "C" {
         colors_count: usize,
         depth: *const Depth,
         queries: u64,
+        max_draws: u64,
         out: *mut Reply,
     ) -> u32;
     pub fn wethlorn_end(device: *mut Device, encoder: u64, pass: u32, out: *mut Reply) -> u32;
     pub fn wethlorn_push_debug_group(device: *mut Device, encoder: u64, pass: u32, out: *mut Reply) -> u32;
     pub fn wethlorn_pop_debug_group(device: *mut Device, encoder: u64, pass: u32, out: *mut Reply) -> u32;
+    pub fn wethlorn_insert_debug_marker(device: *mut Device, encoder: u64, pass: u32, out: *mut Reply) -> u32;
     pub fn wethlorn_copy_buffer_to_buffer(device: *mut Device, encoder: u64, copy: *const BufferCopy, out: *mut Reply) -> u32;
     pub fn wethlorn_copy_buffer_to_texture(device: *mut Device, encoder: u64, copy: *const TexelCopy, out: *mut Reply) -> u32;
     pub fn wethlorn_copy_texture_to_buffer(device: *mut Device, encoder: u64, copy: *const TexelCopy, out: *mut Reply) -> u32;
@@ -279,6 +281,20 @@ extern "C" {
         offset: u64,
         out: *mut Reply,
     ) -> u32;
+    pub fn wethlorn_set_viewport(device: *mut Device, encoder: u64, pass: u32, viewport: *const Viewport, out: *mut Reply)
+        -> u32;
+    pub fn wethlorn_set_scissor_rect(
+        device: *mut Device,
+        encoder: u64,
+        pass: u32,
+        x: u32,
+        y: u32,
+        width: u32,
+        height: u32,
+        out: *mut Reply,
+    ) -> u32;
+    pub fn wethlorn_set_blend_constant(device: *mut Device, encoder: u64, pass: u32, out: *mut Reply) -> u32;
+    pub fn wethlorn_set_stencil_reference(device: *mut Device, encoder: u64, pass: u32, out: *mut Reply) -> u32;
     pub fn wethlorn_begin_occlusion_query(device: *mut Device, encoder: u64, pass: u32, index: u32, out: *mut Reply) -> u32;
     pub fn wethlorn_end_occlusion_query(device: *mut Device, encoder: u64, pass: u32, out: *mut Reply) -> u32;
     pub fn wethlorn_execute_bundles(

@@ -89,7 +89,7 @@ pub fn rule_text(rule: u32) -> Option<&'static str> {
              and no more of `storage` and `read-only-storage` together than \
              `maxDynamicStorageBuffersPerPipelineLayout`, whatever stages see them",
         140 =>
-            "there are at most 4 layouts",
+            "there are at most 4 layouts, those that are null counted too",
         141 =>
             "no stage sees more in all layouts together than rule 136 allows; a layout that stands there twice \
              counts twice",
@@ -299,24 +299,29 @@ pub fn rule_text(rule: u32) -> Option<&'static str> {
         325 =>
             "the index is within the limit (below 4)",
         326 =>
-            "there are as many offsets as the group's layout has dynamic entries",
+            "there are as many offsets as the group's layout has dynamic entries, and none where the group is \
+             null",
         327 =>
             "each offset is a multiple of 256",
         328 =>
-            "each range that the group binds fits its buffer, moved by its offset",
+            "each range that the group binds fits its buffer, moved by its offset; a group that is null binds \
+             none",
         330 =>
-            "the buffer's usage has VERTEX",
+            "the usage of the buffer, if it is not null, has VERTEX",
         331 =>
             "the slot is within the limit (below 8)",
         332 | 345 =>
             "the offset is a multiple of 4",
-        333 | 337 =>
+        333 =>
             "offset and size fit the buffer; a size that is left out is what remains of the buffer from the \
-             offset on; the size may be 0",
+             offset on; the size may be 0; where the buffer is null both are 0, and a size that is left out is 0",
         335 =>
             "the buffer's usage has INDEX",
         336 =>
             "the offset is a multiple of 2 for uint16, and of 4 for uint32",
+        337 =>
+            "offset and size fit the buffer; a size that is left out is what remains of the buffer from the \
+             offset on; the size may be 0",
         340 =>
             "a pipeline is set",
         341 =>
@@ -359,6 +364,19 @@ pub fn rule_text(rule: u32) -> Option<&'static str> {
         371 =>
             "each bundle has `depthReadOnly` true where the pass has it true, and `stencilReadOnly` true where \
              the pass has that true",
+        400 =>
+            "width and height are at most `maxTextureDimension2D`",
+        401 =>
+            "the viewport begins at most twice `maxTextureDimension2D` to the left of the left edge of what is \
+             attached, and above its upper edge, and ends at most twice that, less 1, to the right of the left \
+             edge, and below the upper edge",
+        402 =>
+            "minDepth is at most maxDepth, and that at most 1",
+        403 =>
+            "x and width together are at most the width of what is attached to the pass, and y and height at most \
+             its height; 0 will do",
+        404 =>
+            "on a render pass whose begin gives `maxDrawCount`: its draws are at most that",
         _ => return None,
     })
 }
@@ -451,7 +469,7 @@ pub fn rule_section(rule: u32) -> Option<&'static str> {
             "Depth/Stencil Attachments",
         310 =>
             "Compute Passes, Render Passes",
-        311 =>
+        311 | 404 =>
             "Render Passes",
         320 =>
             "Drawing, Render Pass Layout",
@@ -473,6 +491,10 @@ pub fn rule_section(rule: u32) -> Option<&'static str> {
             "executeBundles, Render Pass Layout",
         371 =>
             "executeBundles",
+        400 | 401 =>
+            "Rasterization state, Limits",
+        402 | 403 =>
+            "Rasterization state",
         _ => return None,
     })
 }

@@ -7,6 +7,8 @@ pub const VERSION: &str = env!("CARGO_PKG_VERSION");
 
 /// What is left out: a number, a size (which is then what remains) or an object.
 pub const NONE: u64 = u64::MAX;
+/// What 1 is in the numbers of a viewport.
+pub const FIXED_ONE: u64 = 65536;
 /// As the pass on which a command stands: none, the command stands on the encoder or bundle encoder itself.
 pub const ON_ENCODER: u32 = u32::MAX;
 
@@ -444,6 +446,21 @@ pub struct Depth {
     pub stencil_load: u32,
     pub stencil_store: u32,
     pub stencil_read_only: u32,
+}
+
+/// A viewport. It has no floats: each number stands for itself over [`FIXED_ONE`]. It begins `x` to the right of the left edge of what is
+/// attached, or where `left` is 1 to the left of it, and so `y` downwards, or where `above` is 1 upwards.
+#[repr(C)]
+#[derive(Clone, Copy, Debug)]
+pub struct Viewport {
+    pub x: u64,
+    pub y: u64,
+    pub width: u64,
+    pub height: u64,
+    pub min_depth: u64,
+    pub max_depth: u64,
+    pub left: u32,
+    pub above: u32,
 }
 
 /// How texels lie in bytes. bytes_per_row and rows_per_image may be NONE.

@@ -122,11 +122,36 @@ fn what_is_left_out_of_a_descriptor_names_nothing() {
 }
 
 #[test]
+fn what_is_null_names_nothing() {
+    let mut device = Device::open(1024, &[], &[]).unwrap();
+    let layout = device.create_pipeline_layout(&[NONE, NONE]).unwrap().object().unwrap();
+    let pipeline = device.create_compute_pipeline(layout, &[]).unwrap().object().unwrap();
+    let encoder = device.create_encoder().unwrap().object().unwrap();
+    let (pass, _) = device.begin_compute_pass(encoder).unwrap();
+    device.set_pipeline(encoder, pass, pipeline).unwrap();
+    device.set_bind_group(encoder, pass, 0, NONE, &[]).unwrap();
+    device.dispatch(encoder, pass, 1, 1, 1).unwrap();
+    device.insert_debug_marker(encoder, pass).unwrap();
+    device.end(encoder, pass).unwrap();
+    assert_eq!(device.finish(encoder).unwrap().fault, None);
+}
+
+#[test]
 fn values_out_of_range_are_errors() {
     let mut device = Device::open(1024, &[], &[]).unwrap();
     assert_eq!(device.push_error_scope(0), Err(Error::BadValue));
     let encoder = device.create_encoder().unwrap().object().unwrap();
     assert_eq!(device.end(encoder, 3), Err(Error::NoPass));
+    let left = 2;
+    let viewport = device.set_viewport(
+        encoder,
+        0,
+        &Viewport {
+            left,
+            ..Viewport::default()
+        },
+    );
+    assert_eq!(viewport, Err(Error::BadValue));
     assert_eq!(device.limit(0), Err(Error::BadValue));
 }
 

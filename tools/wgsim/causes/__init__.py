@@ -22,6 +22,7 @@ from . import (  # noqa: F401
     scopes,
     settings,
     textures,
+    viewports,
     views,
 )
 from .cases import Causes, of_report  # noqa: F401

@@ -94,6 +94,22 @@ def groups_of_pass(case: Case) -> Cause | None:
     return left_open(case, case.uses["on"], open_groups(case.earlier))
 
 
+@rule(404)
+def most_draws(case: Case) -> Cause | None:
+    """A pass draws more often than its begin says."""
+    begin, passes = case.uses["on"], case.second.passes
+    most, own = begin.call["maxDrawCount"], sum(command.do in passes.DRAWS for command in case.earlier)
+    count = sum(map(passes.draws_of, case.earlier))
+    if most is None or count <= most:
+        return None
+    by_bundles = f", {own} of its own and {count - own} of the bundles that it executes" if count > own else ""
+    return Cause(
+        f"{case.named(begin)} has {plural(count, 'draw')}{by_bundles}, and its maxDrawCount is {most}",
+        {"pass": begin.call["as"], "draws": count, "own": own, "ofBundles": count - own, "most": most},
+        f"Begin it with a maxDrawCount of at least {count}.",
+    )
+
+
 @rule(285)
 def no_group(case: Case) -> Cause | None:
     place = case.uses["on"]

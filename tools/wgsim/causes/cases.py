@@ -124,10 +124,18 @@ class Case:
         for key, value in self.uses.items():
             if key == "on" and self.is_of_command:
                 continue
-            for number, thing in enumerate(value if type(value) is list else [value]):
-                many = IN_LISTS.get(key, f"item {{}} of {key}") if type(value) is list else f"the {self.called(key)}"
-                found.append((many.format(number), thing))
+            if type(value) is list:
+                many = IN_LISTS.get(key, f"item {{}} of {key}")
+                found += [(many.format(self.place_among(key, number)), thing) for number, thing in enumerate(value)]
+            else:
+                found.append((f"the {self.called(key)}", value))
         return found
+
+    def place_among(self, key: str, number: int) -> int:
+        """The place in a list of the call of the item by which it names so many things before: a null counts too."""
+        given = self.call[key] if type(self.call[key]) is list else []
+        places = [place for place, item in enumerate(given) if item is not None]
+        return places[number] if number < len(places) else number
 
 
 class Play:
@@ -221,7 +229,8 @@ class Play:
         """The same of the commands of a pass alone, or of those of a bundle encoder, which have no begin."""
         settings = second.passes.Settings()
         for number, command in enumerate(inside):
-            if second.rules.first_unmet(command.do, second.passes.command_rules(command, settings)) is not None:
+            rules = second.passes.command_rules(command, settings, self.turns.history.limits)
+            if second.rules.first_unmet(command.do, rules) is not None:
                 return Case(self, finish, command, inside[:number], begin, commands)
             settings.take(command)
         return None

@@ -12,6 +12,7 @@ if TYPE_CHECKING:
     from wgsim.causes.cases import Case
 
 INDEX, VERTEX, INDIRECT = 16, 32, 256
+OF_NO_BUFFER = "Leave offset and size out."
 
 
 def is_left_out(case: Case) -> bool:
@@ -35,12 +36,22 @@ def slot(case: Case) -> Cause | None:
 
 @rule(332)
 def vertex_offset(case: Case) -> Cause | None:
-    return multiple("offset", case.call["offset"], 4)
+    cause = multiple("offset", case.call["offset"], 4)
+    return cause if cause is None or "buffer" in case.uses else Cause(cause.condition, {**cause.values, "buffer": None}, OF_NO_BUFFER)
 
 
 @rule(333)
 def vertex_range(case: Case) -> Cause | None:
-    return set_range(case)
+    return set_range(case) if "buffer" in case.uses else range_of_none(case)
+
+
+def range_of_none(case: Case) -> Cause | None:
+    """A range is given with the buffer null."""
+    for key in ("offset", "size"):
+        if case.call[key]:
+            said = f"{key} is {case.call[key]}, and buffer is null, of which there is no byte"
+            return Cause(said, {key: case.call[key], "buffer": None, "most": 0}, OF_NO_BUFFER)
+    return None
 
 
 @rule(335)

@@ -213,12 +213,13 @@ def layouts_of(case: Case) -> Layouts:
 
 @rule(140)
 def layouts(case: Case) -> Cause | None:
-    count = len(case.uses["layouts"])
+    count, nulls = len(case.call["layouts"]), case.call["layouts"].count(None)
     if count <= 4:
         return None
+    of_which = f", of which {nulls} {'is' if nulls == 1 else 'are'} null," if nulls else ","
     return Cause(
-        f"layouts has {count} items, and at most 4 are allowed",
-        {"layouts": count, "most": 4},
+        f"layouts has {count} items{of_which} and at most 4 are allowed",
+        {"layouts": count, "nulls": nulls, "most": 4},
         "Put the entries of several layouts into one.",
     )
 
@@ -235,8 +236,8 @@ def dynamic_of_all(case: Case) -> Cause | None:
 
 @rule(143)
 def exclusive(case: Case) -> Cause | None:
-    for place, layout in enumerate(case.uses["layouts"]):
-        if layout.owner is not None:
+    for place, layout in enumerate(case.second.automatic.layouts_at(case.played)):
+        if layout is not None and layout.owner is not None:
             return Cause(
                 (
                     f"{case.named(layout)}, which is item {place} of layouts, was got of {case.named(layout.owner)}, which derived it for"

@@ -38,7 +38,7 @@ def interface(case: Case) -> Cause | None:
 
 def unused(case: Case, layout: Played, used: dict[str, Any]) -> tuple[str, Values, str] | None:
     """What a pipeline layout does not offer to an entry of the interface: a condition with its values and a remedy, or None."""
-    layouts = layout.uses["layouts"]
+    layouts = case.second.automatic.layouts_at(layout)
     if used["group"] >= len(layouts):
         return (
             f"{case.named(layout)} has {plural(len(layouts), 'layout')}, and none at {used['group']}",
@@ -46,6 +46,12 @@ def unused(case: Case, layout: Played, used: dict[str, Any]) -> tuple[str, Value
             f"Give {case.name(layout)} a layout at {used['group']}, or name another group.",
         )
     group = layouts[used["group"]]
+    if group is None:
+        return (
+            f"item {used['group']} of the layouts of {case.named(layout)} is null, which has no binding",
+            {"layout": layout.call["as"], "item": used["group"], "has": []},
+            f"Give {case.name(layout)} a layout at {used['group']}, or name another group.",
+        )
     has = {entry["binding"]: entry for entry in group.entries}
     found, stage = has.get(used["binding"]), used.get("stage", "compute")
     if found is None:

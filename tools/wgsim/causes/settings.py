@@ -5,6 +5,7 @@ from __future__ import annotations
 from typing import TYPE_CHECKING, Any, Dict, List, Tuple
 
 from wgsim.reading import bits
+from wgsim.reading.script import UNSETS
 
 from .making import Cause, Values, at_most, first, listed, plural, rule
 
@@ -23,6 +24,8 @@ def index(case: Case) -> Cause | None:
 
 @rule(326)
 def offsets(case: Case) -> Cause | None:
+    if "group" not in case.uses:
+        return offsets_of_none(case)
     group = case.uses["group"]
     layout, given = group.uses["layout"], len(case.call["offsets"])
     bindings = sorted(entry["binding"] for entry in layout.entries if entry.get("dynamic"))
@@ -35,6 +38,15 @@ def offsets(case: Case) -> Cause | None:
         values,
         f"Give {plural(len(bindings), 'offset')}." if bindings else "Leave offsets out.",
     )
+
+
+def offsets_of_none(case: Case) -> Cause | None:
+    """Offsets are given with the group null."""
+    given = len(case.call["offsets"])
+    if not given:
+        return None
+    said = f"offsets has {plural(given, 'item')}, and group is null, which takes no offset"
+    return Cause(said, {"offsets": given, "group": None, "most": 0}, "Leave offsets out.")
 
 
 @rule(327)
@@ -91,12 +103,21 @@ def pipeline(case: Case) -> Cause | None:
 
 
 def unset_before(case: Case, word: str, **keys: int) -> tuple[str, str]:
-    """Words for the bundles that unset what a command has set before, if there are such; and whether it is to be set before or again."""
-    was_set, by = False, None
+    """Words for the command that unset what one has set before, if there is such, be it by bundles or by null; and whether it is to be
+    set before or again."""
+    is_set, by = False, None
     for command in case.earlier:
-        was_set = was_set or command.do == word and all(command.call[key] == held for key, held in keys.items())
-        by = command if was_set and command.do == "executeBundles" else by
-    return (f": the executeBundles at {case.place(by)} unset it", "again") if by else ("", "before")
+        is_own = command.do == word and all(command.call[key] == held for key, held in keys.items())
+        if is_own and is_setting(command):
+            is_set = True
+        elif is_set and (is_own or command.do == "executeBundles"):
+            is_set, by = False, command
+    return (f": the {by.do} at {case.place(by)} unset it", "again") if by else ("", "before")
+
+
+def is_setting(command: Played) -> bool:
+    """Whether a command sets something, and does not unset it by null."""
+    return UNSETS.get(command.do, "on") in command.uses
 
 
 class Asked:
@@ -109,7 +130,7 @@ class Asked:
         self.entries = entries
         self.owner = case.second.automatic.owner_in_use(pipeline)
         self.setting = case.settings.groups.get(at)
-        layout = None if self.owner else pipeline.uses["layout"].uses["layouts"][at]
+        layout = None if self.owner else case.second.automatic.layouts_at(pipeline.uses["layout"])[at]
         self.name = layout.call["as"] if layout else None
         self.words = f"{case.named(pipeline)} asks there for " + (case.named(layout) if layout else "the layout that it derives")
 

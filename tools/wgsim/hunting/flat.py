@@ -1,11 +1,13 @@
 """Makes of a script one of a single lane that a browser can play: in the order in which the core took its calls, and without what cannot be
-played. What is left out is counted under a name, and with it goes what names it. Labels are left out too: no answer hangs on them. """
+played. What is left out is counted under a name, and with it goes what names it. Labels are left out too: no answer hangs on them. Fixed
+numbers become those of floats, which is all that a page can give. """
 
 from __future__ import annotations
 
 import collections
 import json
 import random
+import struct
 from typing import Any
 
 from . import shaders, shape
@@ -20,6 +22,8 @@ MOST_RUNS = 2**16
 MAPS, MOST_MAPPED = 3, 2**31
 # How many pixels a canvas has on a side at most: browsers take no more, or none of that.
 MOST_PIXELS = 2**31 - 1
+# The greatest fixed number that is a float's.
+MOST_FLOAT = 2**53 - 2**29
 DROP, OUT_OF_MEMORY, LARGE, LONG, INTERFACE, FRAME, CANVAS = (
     "drops, which no page can make", "what takes much memory", "writes of many bytes", "dispatches and draws that take long",
     "interfaces that WGSL cannot say", "what is waited for while a canvas has a texture, which then expires",
@@ -50,7 +54,7 @@ def playable(core: Core, flat: Flat, left: collections.Counter[str]) -> Answered
     """What the core answers to as much of a script as can be played; None where that is refused."""
     gone = unplayable(flat.calls)
     left.update(gone.values())
-    calls = shape.without([without_label(call) for call in flat.calls], set(gone))
+    calls = shape.without([with_floats(without_label(call)) for call in flat.calls], set(gone))
     for _ in range(ROUNDS):
         answered = core.answered(Flat(calls, flat.limits, MEMORY))
         if answered is None:
@@ -67,6 +71,22 @@ def playable(core: Core, flat: Flat, left: collections.Counter[str]) -> Answered
 
 def without_label(call: dict[str, Any]) -> dict[str, Any]:
     return {key: value for key, value in call.items() if key != "label"}
+
+
+def with_floats(call: dict[str, Any]) -> dict[str, Any]:
+    """A call of which each fixed number is that of the float that a page makes of it."""
+    if not any(key.is_fixed for key in shape.keys_of(call["do"]).values()):
+        return call
+    made = dict(call)
+    for slot in shape.slots(made):
+        if slot.key.is_fixed:
+            slot.put(as_float(slot.value))
+    return made
+
+
+def as_float(value: int) -> int:
+    """The nearest fixed number that is a float's, of two the even one."""
+    return min(int(struct.unpack("f", struct.pack("f", value))[0]), MOST_FLOAT)
 
 
 def unplayable(calls: list[dict[str, Any]]) -> dict[int, str]:

@@ -11,6 +11,7 @@ from wgsim import TOP
 
 from . import shape
 from .differences import GONE, SHORT, Difference
+from .flat import as_float
 
 FILE = TOP / "tools/known.json"
 
@@ -240,7 +241,7 @@ def has_group_left(difference: Difference) -> bool:
         elif call["do"] == "setBindGroup":
             if (on, call["index"]) in waiting:
                 return True
-            waiting.add((on, call["index"]))
+            waiting |= {(on, call["index"])} if call["group"] is not None else set()
         elif call["do"] in ("dispatch", "dispatchIndirect"):
             waiting = {(each, index) for each, index in waiting if each != on or index >= count[on]}
     return bool(waiting)
@@ -265,6 +266,16 @@ def has_one_aspect(difference: Difference) -> bool:
     return any(depth.get("depthReadOnly", False) != depth.get("stencilReadOnly", False) for depth in depths)
 
 
+def has_rounded_end(difference: Difference) -> bool:
+    """Whether a viewport that is set in a pass of the encoder that a finish ends has an end which as a sum of floats is less than it is."""
+    script = before(difference)
+    passes = {call["as"] for call in script if call["do"] == "beginRenderPass" and call["on"] == difference.call["on"]}
+    viewports = [call for call in script if call["do"] == "setViewport" and call["on"] in passes]
+    sides = (("x", "left", "width"), ("y", "above", "height"))
+    ends = [(-call[at] if call[before_it] else call[at]) + call[size] for call in viewports for at, before_it, size in sides]
+    return any(as_float(end) < end for end in ends if end > 0)
+
+
 def counted(text: str) -> dict[str, int]:
     """How many errors of which kinds are told in a line (differences.told_of)."""
     return {kind: int(times) for times, kind in re.findall(r"(\d+) ([a-z-]+)", text)}
@@ -276,6 +287,6 @@ TESTS = {
         is_served, is_texel_buffer, is_lost, is_encoder_refused, names_destroyed, has_canvas, has_pass, follows_map,
         has_depth_color, has_deep_resolve, has_null_targets, has_visibility, has_no_bundle, is_fewer,
         has_destroyed_queries, has_empty_copy, has_odd_index, has_configured,
-        is_more, has_one_aspect, has_group_left, lacks_aspect,
+        is_more, has_one_aspect, has_group_left, lacks_aspect, has_rounded_end,
     )
 }

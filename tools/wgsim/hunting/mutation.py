@@ -63,7 +63,7 @@ def change_flag(chance: random.Random, script: list[dict[str, Any]]) -> None:
 
 
 def change_name(chance: random.Random, script: list[dict[str, Any]]) -> None:
-    """A name becomes that of another object of the kind that was made before."""
+    """A name becomes that of another object of the kind that was made before, or null where that may stand."""
     number = chance.randrange(len(script))
     made: dict[str | None, list[str]] = {}
     for call in script[:number]:
@@ -71,7 +71,8 @@ def change_name(chance: random.Random, script: list[dict[str, Any]]) -> None:
     found = [slot for slot in shape.slots(script[number]) if slot.key.sort == "name"]
     if found:
         slot = chance.choice(found)
-        others = [name for kind in slot.key.kinds() for name in made.get(kind, []) if name]
+        others: list[str | None] = [name for kind in slot.key.kinds() for name in made.get(kind, []) if name]
+        others += [None] if slot.key.may_have_null else []
         if others:
             slot.put(chance.choice(others))
 

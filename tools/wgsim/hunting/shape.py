@@ -51,7 +51,8 @@ def keys_of_object(sort: str, item: dict[str, Any]) -> dict[str, calls.Key]:
 
 def key_of_item(key: calls.Key) -> calls.Key:
     """What an item of a list of names, numbers or words has to be."""
-    return calls.Key("number 32") if key.sort == "three" else calls.Key(f"{ITEMS[key.sort]} {key.detail}")
+    null = " or null" if key.may_have_null else ""
+    return calls.Key("number 32") if key.sort == "three" else calls.Key(f"{ITEMS[key.sort]} {key.detail}{null}")
 
 
 def slots(call: dict[str, Any]) -> Iterator[Slot]:

@@ -182,6 +182,8 @@ def plainer(slot: shape.Slot) -> list[Any]:
     if slot.key.sort == "word" and slot.value is not None:
         words = calls.WORDS[slot.key.detail]
         return words[: words.index(slot.value)]
+    if slot.key.sort == "name" and slot.key.may_have_null:
+        return [None] if slot.value is not None else []
     return [calls.AUTO] if slot.key.may_be_auto and slot.value != calls.AUTO else []
 
 

@@ -203,8 +203,8 @@ def render_pass(call: dict[str, Any]) -> dict[str, Any]:
     described: dict[str, Any] = {"colorAttachments": [color(each) for each in call["colors"]]}
     if call["depth"] is not None:
         described["depthStencilAttachment"] = depth_attachment(call["depth"])
-    queries = {"occlusionQuerySet": ref(call["queries"])} if call["queries"] is not None else {}
-    return {"on": call["on"], "method": "beginRenderPass", "args": [{**described, **queries}], "as": call["as"]}
+    more = slim({"occlusionQuerySet": ref(call["queries"]), "maxDrawCount": call["maxDrawCount"]})
+    return {"on": call["on"], "method": "beginRenderPass", "args": [{**described, **more}], "as": call["as"]}
 
 
 def spot(call: dict[str, Any], texture_key: str = "texture", mip: str = "mip", at: str = "origin") -> dict[str, Any]:
@@ -264,8 +264,20 @@ def base_vertex(call: dict[str, Any]) -> int:
     return base - 2**32 if base >= 2**31 else base
 
 
-def groups(call: dict[str, Any]) -> Any:
-    return call["offsets"] or None
+def bind_group(call: dict[str, Any]) -> dict[str, Any]:
+    """What sets a bind group, or, where it is null, unsets the one that was set."""
+    offsets = [call["offsets"]] if call["offsets"] else []
+    return {"on": call["on"], "method": "setBindGroup", "args": [call["index"], ref(call["group"]), *offsets]}
+
+
+def real(name: str, before: str | None = None) -> Callable[[Any], Any]:
+    """A fixed number as the float that it is; one that is said with a flag is below 0 where that is set."""
+
+    def described(call: dict[str, Any]) -> float:
+        value = call[name] / calls.ONE if call[name] % calls.ONE else call[name] // calls.ONE
+        return -value if before is not None and call[before] else value
+
+    return described
 
 
 def bundles(call: dict[str, Any]) -> list[Any]:
@@ -317,11 +329,17 @@ TRANSLATE: dict[str, Callable[[Any], dict[str, Any]]] = {
     "beginComputePass": lambda call: {"on": call["on"], "method": "beginComputePass", "args": [], "as": call["as"]},
     "beginRenderPass": render_pass,
     "setPipeline": command("setPipeline", named("pipeline")),
-    "setBindGroup": command("setBindGroup", key("index"), named("group"), groups),
+    "setBindGroup": bind_group,
     "dispatch": command("dispatchWorkgroups", key("x"), key("y"), key("z")),
     "dispatchIndirect": command("dispatchWorkgroupsIndirect", named("buffer"), key("offset")),
     "setVertexBuffer": command("setVertexBuffer", key("slot"), named("buffer"), key("offset"), key("size")),
     "setIndexBuffer": command("setIndexBuffer", named("buffer"), key("format"), key("offset"), key("size")),
+    "setViewport": command(
+        "setViewport", real("x", "left"), real("y", "above"), real("width"), real("height"), real("minDepth"), real("maxDepth")
+    ),
+    "setScissorRect": command("setScissorRect", key("x"), key("y"), key("width"), key("height")),
+    "setBlendConstant": command("setBlendConstant", lambda call: [0, 0, 0, 1]),
+    "setStencilReference": command("setStencilReference", key("reference")),
     "draw": command("draw", key("vertices"), key("instances"), key("firstVertex"), key("firstInstance")),
     "drawIndexed": command("drawIndexed", key("indices"), key("instances"), key("firstIndex"), base_vertex, key("firstInstance")),
     "drawIndirect": command("drawIndirect", named("buffer"), key("offset")),
@@ -332,6 +350,7 @@ TRANSLATE: dict[str, Callable[[Any], dict[str, Any]]] = {
     "end": command("end"),
     "pushDebugGroup": command("pushDebugGroup", lambda call: "group"),
     "popDebugGroup": command("popDebugGroup"),
+    "insertDebugMarker": command("insertDebugMarker", lambda call: "marker"),
     "createCanvas": lambda call: {"canvas": [call["width"], call["height"]], "as": call["as"]},
     "configureCanvas": configure,
     "currentTexture": lambda call: {"on": call["canvas"], "method": "getCurrentTexture", "args": [], "as": call["as"]},

@@ -30,11 +30,11 @@ def code(value: Any) -> str:
         return "[" + ", ".join(map(code, value)) + "]"
     if isinstance(value, str):
         return "'" + json.dumps(value)[1:-1].replace("'", "\\'").replace('\\"', '"') + "'"
-    return "undefined" if value is None else json.dumps(value)
+    return json.dumps(value)
 
 
 def items(args: list[Any]) -> str:
-    """Arguments, those that were not given as `undefined`."""
+    """Arguments, with null where one is null."""
     return ", ".join(code(arg) for arg in args)
 
 

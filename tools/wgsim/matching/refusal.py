@@ -295,7 +295,7 @@ def wrong_in(value: Value, key: Key) -> Value | None:
             return value
         items = [item for item in value.what if not (key.may_have_null and item.kind == "null")]
         return next((item for item in items if not ITEMS[key.sort](item, key)), None)
-    return None if value.kind == "string" else value
+    return None if value.kind == "string" or key.may_have_null and value.kind == "null" else value
 
 
 # Whether an item of a list is what the list's sort asks for.

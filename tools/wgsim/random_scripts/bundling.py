@@ -8,6 +8,7 @@ from __future__ import annotations
 
 from typing import TYPE_CHECKING, Sequence
 
+from . import states
 from .dispatching import named, new_layout
 from .drawing import draw_call, joins, new_render_pipeline, parts_of_group
 from .grouping import usable
@@ -39,6 +40,7 @@ def render_calls(
     calls = drawn(world, on, target, wanted, counts, between)
     if random.random() < world.queries:
         with_queries(world, target.begin, on, calls)
+    states.in_render_pass(world, on, target.begin, calls)
     return [target.begin, *calls, {"do": "end", "on": on}], target.clashes
 
 
@@ -58,6 +60,7 @@ def bare_calls(world: World, encoder: str | None, on: str) -> list[Call]:
         calls.insert(random.choice([0, len(calls)]), executes(world, on, target, False))
     if random.random() < world.queries:
         with_queries(world, target.begin, on, calls)
+    states.in_render_pass(world, on, target.begin, calls)
     return [target.begin, *calls, {"do": "end", "on": on}]
 
 
@@ -127,6 +130,7 @@ def new_bundle(world: World, target: Target, is_any: bool = False, wanted: str |
     random, on = world.random, world.new_name("h")
     wanted = "scope" if is_any and wanted is None else wanted
     body = drawn(world, on, target, wanted, {None: (0, 1, 1, 1, 2), "scope": (1, 2, 2, 3)}.get(wanted, (1,)))
+    states.in_bundle(random, on, body)
     calls = [target.begin, *body, {"do": "finishBundle"}]
     if spoil is not None:
         spoil(world, on, calls)
@@ -163,6 +167,7 @@ def finished(world: World, encoder: Thing, target: Target, body: list[Call]) -> 
     thing.parts = parts_of(world, body)
     thing.names = {value for call in body for value in call.values() if isinstance(value, str)} - {encoder.name}
     thing.behind = {part[1] for part, _ in thing.parts}
+    thing.draws = states.draws_in(world, body)
     if random.random() < 0.04:
         world.add({**late_call(world), "on": encoder.name})
     if random.random() < 0.02:
@@ -183,7 +188,7 @@ def late_call(world: World) -> Call:
     calls += [{"do": word, "buffer": buffer, "offset": 1} for word in ("drawIndirect", "drawIndexedIndirect")]
     calls += [{"do": "setPipeline", "pipeline": thing.name} for thing in world.render_pipelines[-1:]]
     calls += [{"do": "setBindGroup", "index": 0, "group": thing.name} for thing in world.groups[-1:]]
-    return world.random.choice(calls)
+    return world.random.choice(calls + states.late(world.random, False))
 
 
 def drop_one(world: World, things: list[Thing]) -> None:
@@ -196,6 +201,8 @@ def parts_of(world: World, calls: list[Call]) -> list[tuple[Cell, str]]:
     """The parts that the calls on a bundle encoder use, whatever they leave unmet, each with its role in a usage scope."""
     found = []
     for call in calls:
+        if states.is_null(call):
+            continue
         if call["do"] == "setBindGroup":
             group = named(world.groups, call["group"])
             found += parts_of_group(group, call.get("offsets", [])) if group is not None and hasattr(group, "bound") else []

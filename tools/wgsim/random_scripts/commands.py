@@ -292,7 +292,9 @@ def told_copy(random: Random, encoder: Thing, source: Thing, target: Thing, spot
 
 
 def debug_group(world: World, encoder: Thing, good: bool) -> None:
-    if encoder.groups > 0 and world.random.random() < 0.5 or not good:
+    if good and world.random.random() < 0.25:
+        world.add({"do": "insertDebugMarker", "on": encoder.name})
+    elif encoder.groups > 0 and world.random.random() < 0.5 or not good:
         world.add({"do": "popDebugGroup", "on": encoder.name})
         encoder.groups = max(encoder.groups - 1, 0)
     else:

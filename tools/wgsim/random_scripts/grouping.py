@@ -164,8 +164,15 @@ def pipeline_layout(world: World) -> Thing:
 
 
 def pipeline_layout_of(world: World, layouts: list[Thing], good: bool) -> Thing:
+    """A pipeline layout of some layouts; in place of those that have no entry null may stand, and so it may beside those that are too
+    many."""
+    random = world.random
     is_good = good and all(layout.good and not layout.dropped for layout in layouts)
-    thing = world.make("l", {"do": "createPipelineLayout", "layouts": [layout.name for layout in layouts]}, is_good)
+    names = [layout.name if layout.entries or random.random() < 0.5 else None for layout in layouts]
+    if not good and random.random() < 0.1:
+        names = (names + [None] * 5)[:random.choice([5, 5, 6])]
+        random.shuffle(names)
+    thing = world.make("l", {"do": "createPipelineLayout", "layouts": names}, is_good)
     thing.layouts = layouts
     world.pipeline_layouts.append(thing)
     return thing

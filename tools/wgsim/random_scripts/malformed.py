@@ -14,10 +14,10 @@ if TYPE_CHECKING:
 
 WORD_LIMIT, WHOLE_LIMIT = 2**32 - 1, 2**53 - 1
 UNKNOWN = [
-    "", "createbuffer", "CreateBuffer", "createBuffer ", "getBindGroupLayouts", "setViewport", "copy", "createBuffer\0", "é", "Lose",
+    "", "createbuffer", "CreateBuffer", "createBuffer ", "getBindGroupLayouts", "setViewPort", "copy", "createBuffer\0", "é", "Lose",
     "onSubmittedWorkDone",
 ]
-UNKNOWN += ["getCurrentTexture", "configure", "Present", "unconfigureCanvas"]
+UNKNOWN += ["getCurrentTexture", "configure", "Present", "unconfigureCanvas", "setScissorRectangle", "insertMarker", "setImmediates"]
 NAME_KEYS = {
     "canvas", "buffer", "texture", "source", "target", "on", "object", "layout", "view", "resolve", "sampler", "pipeline", "group",
     "queries",
@@ -27,7 +27,7 @@ BUNDLE_WORDS = ["createBundleEncoder", "createBundleEncoder", "finishBundle", "e
 PASS_WORDS = [
     "beginComputePass", "setPipeline", "setBindGroup", "dispatch", "dispatchIndirect", "end", "createRenderPipeline", "beginRenderPass",
     "beginRenderPass", "setVertexBuffer", "setIndexBuffer", "draw", "drawIndexed", "drawIndirect", "drawIndexedIndirect", *QUERY_WORDS,
-    *BUNDLE_WORDS,
+    *BUNDLE_WORDS, "setViewport", "setScissorRect", "setBlendConstant", "setStencilReference", "insertDebugMarker",
 ]
 NUMBERS = [
     "0", "1", "-1", "-0", "1.0", "1.5", "1e3", "1E3", "1e-3", "0e400", "0.0e999999", "4294967295", "4294967296", "9007199254740991",
@@ -138,7 +138,7 @@ def of_call(random: Random, top: Any, calls: list[Any]) -> Any:
         call = dict(calls[at])
         calls[at] = call
         if random.random() < 0.35:
-            calls[at] = random.choices([automatic, sliced, labeled, based], [2, 2, 4, 2])[0](random, call)
+            calls[at] = random.choices([automatic, sliced, labeled, based, stated, nulled], [2, 2, 4, 2, 4, 3])[0](random, call)
             return top
         if random.random() < 0.8 and spoil_object(random, call):
             return top
@@ -196,7 +196,7 @@ def other_item(random: Random, call: Any) -> None:
 
 
 def null_item(random: Random, call: Any) -> None:
-    """A null in a list, which only `targets` and `colors` may have, be it those of a bundle encoder."""
+    """A null in a list, which only `targets`, `layouts` and `colors` may have, be it those of a bundle encoder."""
     lists = [key for key, value in call.items() if isinstance(value, list)]
     if lists:
         key = random.choice(lists)
@@ -228,7 +228,8 @@ MORE_KEYS = [
     "store",
     "depthLoad", "depthReadOnly", "stencilStore", "slot", "vertices", "firstIndex", "depthWrite", "depthSlice", "queries", "queries",
     "baseVertex", "first", "count", "index", "occlusionQuerySet", "querySet", "queryIndex", "bundles", "bundle", "stencilReadOnly",
-    "colorFormats", "depthStencilFormat", "sampleCount", "canvas", "width", "height", "format",
+    "colorFormats", "depthStencilFormat", "sampleCount", "canvas", "width", "height", "format", "maxDrawCount", "maxDrawCount", "left",
+    "above", "y", "minDepth", "maxDepth", "reference",
 ]
 WRONG_WORDS = [
     "Filtering", "filtering", "nonfiltering", "storage", "readonly-storage", "write", "read-write", "sampled", "unfilterable", "sint",
@@ -335,6 +336,51 @@ def based(random: Random, call: Any) -> dict[str, Any]:
     base = random.choice([0, 1, WORD_LIMIT, WORD_LIMIT, WORD_LIMIT + 1, WORD_LIMIT + 1, WHOLE_LIMIT, -1, Raw(random.choice(NUMBERS)), None])
     more: list[dict[str, Any]] = [{}, {}, {}, {}, {"firstIndex": -1}, {"x": 1}, {"do": "draw", "vertices": 3}, {"baseVertex ": 0}]
     return {**made, "baseVertex": base, **random.choice(more)}
+
+
+def stated(random: Random, call: Any) -> dict[str, Any]:
+    """A call that sets something beside what a pass draws with, or a marker, or a begin that says how often its pass may draw, with one
+    value that is wrong, or at an edge; a key that it lacks or has not."""
+    on = call.get("on", "p")
+    calls: list[dict[str, Any]] = [
+        {"do": "setViewport", "on": on, "width": 65536, "height": 65536},
+        {"do": "setViewport", "on": on, "x": 0, "left": True, "y": 0, "above": False, "width": 0, "height": 0, "minDepth": 0},
+        {"do": "setViewport", "on": on, "width": 0, "height": 0, "minDepth": 0, "maxDepth": 0},
+        {"do": "setScissorRect", "on": on, "x": 0, "y": 0, "width": 1, "height": 1},
+        {"do": "setBlendConstant", "on": on},
+        {"do": "setStencilReference", "on": on, "reference": 0},
+        {"do": "insertDebugMarker", "on": on},
+        {"do": "beginRenderPass", "on": on, "colors": [None], "maxDrawCount": 1, "as": "m"},
+    ]
+    made = dict(random.choice(calls))
+    key = random.choice([key for key in made if key != "do"])
+    change = random.randrange(6)
+    if change == 0:
+        del made[key]
+    elif change == 1:
+        made[random.choice(["x", "left", "reference", "color", "label", "maxDrawCount", "as", "width", "depth"])] = random.choice(VALUES)
+    elif change in (2, 3):
+        made[key] = Raw(random.choice(NUMBERS))
+    elif change == 4:
+        made[key] = random.choice([*VALUES, WORD_LIMIT, WORD_LIMIT + 1, WHOLE_LIMIT, WHOLE_LIMIT + 1])
+    return made
+
+
+def nulled(random: Random, call: Any) -> dict[str, Any]:
+    """A call with null where it may stand, or where it may not, and something else wrong or not."""
+    on = call.get("on", "p")
+    calls: list[dict[str, Any]] = [
+        {"do": "setBindGroup", "on": on, "index": 0, "group": None},
+        {"do": "setVertexBuffer", "on": on, "slot": 0, "buffer": None},
+        {"do": "createPipelineLayout", "layouts": [None] * random.choice([1, 5, 1024, 1025]) + ["x"] * random.choice([0, 1]), "as": "m"},
+        {"do": "setIndexBuffer", "on": on, "buffer": None, "format": "uint16"},
+        {"do": "setPipeline", "on": on, "pipeline": None},
+        {"do": "drawIndirect", "on": on, "buffer": None, "offset": 0},
+        {"do": "executeBundles", "on": on, "bundles": [None]},
+    ]
+    made = random.choice([*calls[:3], *calls])
+    more: list[dict[str, Any]] = [{}, {}, {}, {"x": 1}, {"index": -1}, {"slot": None}, {"offset": 4}, {"offsets": [None]}, {"on": None}]
+    return {**made, **random.choice(more)}
 
 
 def automatic(random: Random, call: Any) -> dict[str, Any]:

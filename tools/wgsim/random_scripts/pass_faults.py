@@ -5,6 +5,7 @@ from __future__ import annotations
 
 from typing import TYPE_CHECKING, Callable, Sequence, TypeVar
 
+from . import states
 from .dispatching import INDIRECT, STEP, buffers_in, dynamic_of, known, named, near_group, new_group, new_layout, pick, rival, size_of
 from .grouping import usable
 from .querying import some_set
@@ -27,8 +28,8 @@ def places(calls: list[Call], *words: str) -> list[int]:
 
 
 def some_call(random: Random, calls: list[Call], *words: str) -> Call | None:
-    """One of the calls of some words, often the first, or None."""
-    found = [calls[at] for at in places(calls, *words)]
+    """One of the calls of some words that do not unset by null, often the first, or None."""
+    found = [calls[at] for at in places(calls, *words) if not states.is_null(calls[at])]
     return first_or_any(random, found) if found else None
 
 
@@ -96,7 +97,7 @@ def offset_more(world: World, call: Call) -> None:
 def with_offsets(change: Callable[[World, Call, int], None]) -> Fault:
     """A fault of one setBindGroup that has offsets."""
     def fault(world: World, encoder: str, on: str, calls: list[Call]) -> None:
-        found = [call for call in calls if call.get("offsets")]
+        found = [call for call in calls if call.get("offsets") and not states.is_null(call)]
         if found:
             call = first_or_any(world.random, found)
             call["offsets"] = list(call["offsets"])
@@ -219,7 +220,8 @@ def dead_pass(world: World, encoder: str, on: str, calls: list[Call]) -> None:
     random, name = world.random, world.new_name("d")
     is_render = random.random() < 0.5
     is_alike = is_render == (calls[0]["do"] == "beginRenderPass")
-    fit = [call for call in calls[1:] if is_alike or call["do"] in ("setBindGroup", "end", "pushDebugGroup", "popDebugGroup")]
+    of_any = ("setBindGroup", "end", "pushDebugGroup", "popDebugGroup", "insertDebugMarker")
+    fit = [call for call in calls[1:] if is_alike or call["do"] in of_any]
     dead = [{**call, "on": name} for call in random.sample(fit, random.randint(0, min(len(fit), 3)))]
     dead += [{"do": "end", "on": name}] * random.choice([0, 1, 1, 2])
     at = random.randint(1, len(calls) - 1)
@@ -243,7 +245,7 @@ def on_encoder(world: World, encoder: str, on: str, calls: list[Call]) -> None:
     """A command on the encoder while the pass is open."""
     random, buffer = world.random, world.random.choice(world.buffers).name
     others: list[Call] = [
-        {"do": "pushDebugGroup"}, {"do": "popDebugGroup"}, {"do": "clearBuffer", "buffer": buffer},
+        {"do": "pushDebugGroup"}, {"do": "popDebugGroup"}, {"do": "insertDebugMarker"}, {"do": "clearBuffer", "buffer": buffer},
         {"do": "copyBufferToBuffer", "source": buffer, "sourceOffset": 1, "target": world.buffers[0].name, "targetOffset": 0, "size": 4},
     ]
     if world.textures and random.random() < 0.5:
@@ -281,6 +283,7 @@ DISPATCH_FAULTS = [
 ORDER_FAULTS = [invalid_pipeline, pop_too_many, push_too_many, dead_pass, dead_pass, on_encoder, on_encoder, on_encoder, shuffled]
 OFFSET_FAULTS = [offset_past, offset_past, offset_unaligned, offsets_turned]
 FAULTS = SETTING_FAULTS * 2 + OFFSET_FAULTS + DISPATCH_FAULTS + ORDER_FAULTS + [other_layout] * 10 + [other_owner] * 12
+FAULTS += states.NULL_FAULTS * 2
 
 
 def spoil(world: World, encoder: str, on: str, calls: list[Call]) -> None:
@@ -295,7 +298,8 @@ def spoil(world: World, encoder: str, on: str, calls: list[Call]) -> None:
 def faults(world: World, encoder: str, on: str, calls: list[Call]) -> None:
     """One fault as a rule, at times two or three, often of one command, so that the order of rules shows."""
     random, kind = world.random, world.random.random()
-    settings = sorted((call for call in calls if call["do"] == "setBindGroup"), key=lambda call: -len(call.get("offsets", [])))
+    settings = [call for call in calls if call["do"] == "setBindGroup" and not states.is_null(call)]
+    settings.sort(key=lambda call: -len(call.get("offsets", [])))
     if kind < 0.15 and settings:
         for change in sorted(random.sample(SETTING_FAULTS, random.choice([2, 3, 4])), key=SETTING_FAULTS.index):
             change(world, encoder, on, settings[:1])

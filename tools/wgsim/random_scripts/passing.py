@@ -9,6 +9,7 @@ from __future__ import annotations
 
 from typing import TYPE_CHECKING, Any
 
+from . import states
 from .bindings import is_written
 from .bundling import bare_calls, bundle_alone, render_calls
 from .commands import clear_buffer, copy_buffer, write_buffer, write_texture
@@ -178,7 +179,9 @@ def one_pass(world: World, plan: Plan) -> None:
         calls, clashes = render_calls(world, plan.encoder, on, wanted)
     else:
         wanted = random.choice([None] * 6 + ["overlap", "scope", "scope"]) if fault else None
-        calls = [{"do": "beginComputePass", "on": plan.encoder, "as": on}, *dispatches(world, on, wanted), {"do": "end", "on": on}]
+        body = dispatches(world, on, wanted)
+        states.in_compute_pass(random, on, body)
+        calls = [{"do": "beginComputePass", "on": plan.encoder, "as": on}, *body, {"do": "end", "on": on}]
         clashes = wanted == "scope"
     if fault and wanted is None:
         (spoil_render if is_render else spoil)(world, plan.encoder, on, calls)
@@ -215,6 +218,7 @@ def late_on_pass(world: World, on: str, is_render: bool) -> list[Call]:
     pipelines = world.render_pipelines if is_render else world.pipelines
     calls += [{"do": "setPipeline", "pipeline": thing.name} for thing in pipelines[-1:]]
     calls += [{"do": "setBindGroup", "index": 0, "group": thing.name} for thing in world.groups[-1:]]
+    calls += states.late(random, is_render)
     return [{**call, "on": on} for call in random.sample(calls, random.choice([1, 1, 2]))]
 
 
@@ -237,6 +241,8 @@ def outside(world: World, plan: Plan) -> None:
         plan.good = plan.good and good
     if random.random() < 0.06:
         plan.calls += [{"do": "pushDebugGroup", "on": plan.encoder}, {"do": "popDebugGroup", "on": plan.encoder}]
+    if random.random() < 0.04:
+        plan.calls.append(states.marker(random, plan.encoder))
     if world.has_fault() and random.random() < 0.06:
         plan.calls.append({"do": random.choice(["pushDebugGroup", "popDebugGroup"]), "on": plan.encoder})
         plan.good = False
@@ -444,7 +450,7 @@ def late(world: World, plan: Plan) -> None:
     begun = [(call["as"], call["do"] == "beginRenderPass") for call in plan.calls if call["do"] in ("beginComputePass", "beginRenderPass")]
     kind = random.randrange(3)
     if kind == 0:
-        calls: list[Call] = [{"do": "pushDebugGroup"}, {"do": "clearBuffer", "buffer": world.buffers[0].name}]
+        calls: list[Call] = [{"do": "pushDebugGroup"}, {"do": "insertDebugMarker"}, {"do": "clearBuffer", "buffer": world.buffers[0].name}]
         if random.random() < world.queries:
             resolve = {"do": "resolveQuerySet", "queries": some_set(world).name, "first": 0, "count": 1}
             calls = [{**resolve, "buffer": world.buffers[0].name, "offset": 0}]

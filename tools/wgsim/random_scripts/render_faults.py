@@ -17,6 +17,7 @@ from .pass_faults import (
 )
 from .query_faults import QUERY_FAULTS
 from .resources import COLOR_FORMATS, DEPTH_FORMATS
+from .states import NULL_FAULTS, STATE_FAULTS
 from .targets import ASPECTS_OF, FOUR_COLORS, MOST_COLORS, LOADS, STORES
 
 if TYPE_CHECKING:
@@ -644,6 +645,8 @@ FAULTS = (
     + ORDER_FAULTS * 2
     + QUERY_FAULTS
     + [other_owner] * 6
+    + STATE_FAULTS * 2
+    + NULL_FAULTS * 2
 )
 
 
@@ -667,8 +670,10 @@ def faults(world: World, encoder: str, on: str, calls: list[Call]) -> None:
         several = random.sample(BEGIN_FAULTS, 2)
     elif kind < 0.22:
         several = random.sample(random.choice([VERTEX_FAULTS, INDEX_FAULTS]), random.choice([2, 3]))
-    elif kind < 0.36:
+    elif kind < 0.34:
         several = random.sample(DRAW_FAULTS, 2)
+    elif kind < 0.37:
+        several = random.sample(STATE_FAULTS + NULL_FAULTS, 2)
     elif kind < 0.42:
         several = random.sample(FAULTS, 2)
     else:
@@ -696,6 +701,7 @@ BUNDLE_FAULTS = (
     + [writing_in_bundle] * 5
     + [pop_too_many, push_too_many] * 3
     + [shuffled] * 3
+    + NULL_FAULTS * 3
 )
 
 

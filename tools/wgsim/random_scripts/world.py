@@ -34,6 +34,7 @@ class Thing:
     signature: Signature
     writes: set[str]
     bound: Bound
+    draws: int
     target: Any  # A Target, or in holding.py the keys of a bundle encoder.
     parts: list[tuple[Cell, str]]
     names: set[str]

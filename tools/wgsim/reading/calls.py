@@ -21,11 +21,13 @@ OBJECTS = TABLE["objects"]
 FORMS = TABLE["forms"]
 AUTO = "auto"
 MOST_LABEL = 256
+# A fixed number stands for itself over this one.
+ONE = 65536
 
 
 class Key:
-    """What the value of a key has to be: `sort` with its `detail`, whether the key may be left out, whether an item of its list may be
-    null, and whether the word `auto` may stand in place of a name."""
+    """What the value of a key has to be: `sort` with its `detail`, whether the key may be left out, whether it, or an item of its list, may
+    be null, whether the word `auto` may stand in place of a name, and whether a number is a fixed one."""
 
     def __init__(self, text: str) -> None:
         words = text.split()
@@ -35,6 +37,8 @@ class Key:
         words = words[:-2] if self.may_have_null else words
         self.may_be_auto = words[-2:] == ["or", "auto"]
         words = words[:-2] if self.may_be_auto else words
+        self.is_fixed = words[-1] == "fixed"
+        words = words[:-1] if self.is_fixed else words
         self.sort = words[0]
         self.detail = " ".join(words[1:])
 
@@ -50,7 +54,8 @@ class Key:
     def expected(self) -> str:
         """What is expected, in words."""
         if self.sort == "number":
-            return f"a whole number from 0 to {2 ** int(self.detail) - 1}, in decimal digits alone"
+            stands = f", which stands for itself over {ONE}" if self.is_fixed else ""
+            return f"a whole number from 0 to {2 ** int(self.detail) - 1}, in decimal digits alone{stands}"
         if self.sort == "three":
             return f"a list of exactly three whole numbers from 0 to {2 ** 32 - 1}"
         if self.sort == "boolean":
@@ -58,9 +63,10 @@ class Key:
         if self.sort == "word":
             return "one of " + quoted(WORDS[self.detail])
         if self.sort == "name":
-            return f"the name of {either(self.kinds())}" + (f', or the word "{AUTO}"' if self.may_be_auto else "")
+            return f"the name of {either(self.kinds())}" + (f', or the word "{AUTO}"' if self.may_be_auto else "") + self.or_null()
         if self.sort == "names":
-            return f"a list of at most 1024 names, each of {either(self.kinds())}"
+            many = "items, each the name" if self.may_have_null else "names, each"
+            return f"a list of at most 1024 {many} of {either(self.kinds())}{self.or_null()}"
         if self.sort == "numbers":
             return f"a list of at most 1024 whole numbers from 0 to {2 ** int(self.detail) - 1}"
         if self.sort == "words":
@@ -90,6 +96,13 @@ def is_long(label: str) -> bool:
 def control_in(label: str) -> int | None:
     """The first character of a label that may not stand in one, by its number, or None."""
     return next((ord(letter) for letter in label if letter < " " or letter == "\x7f"), None)
+
+
+def decimal(number: int) -> str:
+    """What a fixed number stands for, exactly."""
+    whole, rest = divmod(abs(number), ONE)
+    digits = f"{whole}.{rest * 10 ** 16 // ONE:016d}".rstrip("0").rstrip(".")
+    return f"-{digits}" if number < 0 else digits
 
 
 def quoted(words: Iterable[str]) -> str:

@@ -11,8 +11,10 @@ from wgsim.reading import calls, frames
 if TYPE_CHECKING:
     from wgsim.reading.places import Text, Value
 
-# The calls that set something of a pass, with the key that says where, if several stand side by side.
+# The calls that set something of a pass by which it dispatches or draws, with the key that says where, if several stand side by side; and
+# the key of each that may be null, so that the call unsets what is set.
 SETS = {"setPipeline": None, "setBindGroup": "index", "setVertexBuffer": "slot", "setIndexBuffer": None}
+UNSETS = {"setBindGroup": "group", "setVertexBuffer": "buffer"}
 
 
 class Call:
@@ -53,6 +55,11 @@ class Call:
     def number(self, key: str, otherwise: Any = None) -> Any:
         value = self.value.member(key)
         return int(value.what) if value is not None and value.kind == "number" and value.what.isdigit() else otherwise
+
+    def sets(self) -> bool:
+        """Whether the call sets something by which its pass or bundle dispatches or draws."""
+        value = self.value.member(UNSETS[self.word]) if self.word in UNSETS else None
+        return self.word in SETS and (value is None or value.kind != "null")
 
     def is_empty(self) -> bool:
         """Whether the call names a size that has nothing in it, or no query, as far as its text tells."""
@@ -163,13 +170,15 @@ class Script:
 
     def set_at(self, call: Call) -> list[Call]:
         """What is set of a pass or a bundle where a call records on it: the last setPipeline, the last setBindGroup of each index and
-        setVertexBuffer of each slot, least indexes and slots first, and the last setIndexBuffer. Bundles that are executed unset all of it.
-        """
+        setVertexBuffer of each slot, least indexes and slots first, and the last setIndexBuffer. One with null unsets what is set there,
+        and bundles that are executed unset all of it."""
         found = {}
         for command in self.before(call):
             if command.word in SETS:
                 at = SETS[command.word]
-                found[list(SETS).index(command.word), command.number(at, 0) if at else 0] = command
+                where = list(SETS).index(command.word), command.number(at, 0) if at else 0
+                found.pop(where, None)
+                found.update({where: command} if command.sets() else {})
             elif calls.executes(command.word):
                 found = {}
         return [found[at] for at in sorted(found)]
@@ -187,7 +196,7 @@ class Script:
 
     def set_before(self, call: Call) -> list[Call]:
         """What a call's pass or bundle has set or executed before it, overwritten or not, in order."""
-        return [command for command in self.before(call) if command.word in SETS or calls.executes(command.word)]
+        return [command for command in self.before(call) if command.sets() or calls.executes(command.word)]
 
     def before(self, call: Call) -> list[Call]:
         """The commands of the pass or bundle of a call that come before it."""

@@ -25,11 +25,6 @@ function drawing(recording, on, call) {
   for (const outside of marks.values()) throw outside;
   return { call: { do: call.do, on: name, ...call } };
 }
-// A null unsets what is set. A script cannot say so, and leaves it out.
-function unsetting(recording, on, slot, word) {
-  of(recording, on).marks.delete(slot);
-  throw new Outside(word);
-}
 
 const MAKING = {
   'GPUDevice.createBuffer': (recording, on, { size, usage, mappedAtCreation }) => (
@@ -58,10 +53,9 @@ const MAKING = {
     return { as: 'l', kept: { entries }, call: { do: 'createBindGroupLayout', entries } };
   },
   'GPUDevice.createPipelineLayout'(recording, on, described) {
-    const list = [...described.bindGroupLayouts];
-    if (list.some(layout => !layout)) throw new Outside('null layout');
+    const list = [...described.bindGroupLayouts], layouts = list.map(layout => layout ? of(recording, layout).entries : []);
     leaveBut(recording, 'pipelineLayout', described, ['bindGroupLayouts']);
-    return { as: 'y', kept: { layouts: list.map(layout => of(recording, layout).entries) }, call: { do: 'createPipelineLayout', layouts: list.map(layout => nameOf(recording, layout)) } };
+    return { as: 'y', kept: { layouts }, call: { do: 'createPipelineLayout', layouts: list.map(layout => nameOrNull(recording, layout)) } };
   },
   'GPUDevice.createBindGroup': (recording, on, { layout, entries }) => (
     { as: 'g', call: { do: 'createBindGroup', layout: nameOf(recording, layout), entries: [...entries].map(entry => groupEntry(recording, entry)) } }),
@@ -145,6 +139,7 @@ const RECORDING = {
     { call: { do: 'resolveQuerySet', on: nameOf(recording, on), queries: nameOf(recording, queries), first: int(first), count: int(count), buffer: nameOf(recording, buffer), offset: int(offset) } }),
   '*.pushDebugGroup': (recording, on, given) => ({ call: { do: 'pushDebugGroup', on: nameOf(recording, on), label: label(given) } }),
   '*.popDebugGroup': (recording, on) => ({ call: { do: 'popDebugGroup', on: nameOf(recording, on) } }),
+  '*.insertDebugMarker': (recording, on, given) => ({ call: { do: 'insertDebugMarker', on: nameOf(recording, on), label: label(given) } }),
   '*.end': (recording, on) => ({ ends: on, call: { do: 'end', on: nameOf(recording, on) } }),
 };
 
@@ -152,18 +147,19 @@ const DRAWING = {
   '*.setPipeline': (recording, on, pipeline) => setting(recording, on, 'pipeline', () => (
     { do: 'setPipeline', on: nameOf(recording, on), pipeline: nameOf(recording, pipeline) })),
   '*.setBindGroup'(recording, on, index, group, offsets, start, count) {
-    if (!group) unsetting(recording, on, `group ${index}`, 'setBindGroup.null');
     const list = offsets === undefined ? [] : [...offsets], given = start !== undefined && ArrayBuffer.isView(offsets) ? list.slice(start, start + count) : list;
     return setting(recording, on, `group ${index}`, () => (
-      { do: 'setBindGroup', on: nameOf(recording, on), index: int(index), group: nameOf(recording, group), offsets: given.length ? given.map(int) : undefined }));
+      { do: 'setBindGroup', on: nameOf(recording, on), index: int(index), group: nameOrNull(recording, group), offsets: given.length ? given.map(int) : undefined }));
   },
-  '*.setVertexBuffer'(recording, on, slot, buffer, offset, size) {
-    if (!buffer) unsetting(recording, on, `slot ${slot}`, 'setVertexBuffer.null');
-    return setting(recording, on, `slot ${slot}`, () => (
-      { do: 'setVertexBuffer', on: nameOf(recording, on), slot: int(slot), buffer: nameOf(recording, buffer), offset: optional(offset), size: optional(size) }));
-  },
+  '*.setVertexBuffer': (recording, on, slot, buffer, offset, size) => setting(recording, on, `slot ${slot}`, () => (
+    { do: 'setVertexBuffer', on: nameOf(recording, on), slot: int(slot), buffer: nameOrNull(recording, buffer), offset: optional(offset), size: optional(size) })),
   '*.setIndexBuffer': (recording, on, buffer, word, offset, size) => setting(recording, on, 'index', () => (
     { do: 'setIndexBuffer', on: nameOf(recording, on), buffer: nameOf(recording, buffer), format: word, offset: optional(offset), size: optional(size) })),
+  '*.setViewport': (recording, on, ...numbers) => ({ call: { do: 'setViewport', on: nameOf(recording, on), ...viewport(...numbers) } }),
+  '*.setScissorRect': (recording, on, x, y, width, height) => (
+    { call: { do: 'setScissorRect', on: nameOf(recording, on), x: int(x), y: int(y), width: int(width), height: int(height) } }),
+  '*.setBlendConstant': (recording, on) => ({ call: { do: 'setBlendConstant', on: nameOf(recording, on) } }),
+  '*.setStencilReference': (recording, on, reference) => ({ call: { do: 'setStencilReference', on: nameOf(recording, on), reference: int(reference) } }),
   '*.dispatchWorkgroups': (recording, on, x, y, z) => drawing(recording, on, { do: 'dispatch', x: int(x), y: optional(y), z: optional(z) }),
   '*.dispatchWorkgroupsIndirect': (recording, on, buffer, offset) => drawing(recording, on, { do: 'dispatchIndirect', buffer: nameOf(recording, buffer), offset: int(offset) }),
   '*.draw': (recording, on, vertices, instances, first, firstInstance) => (
@@ -188,8 +184,7 @@ const DRAWING = {
 
 // Calls that are passed over, each under its own name.
 const PASSED = {
-  '*.insertDebugMarker': 'insertDebugMarker', '*.setViewport': 'setViewport', '*.setScissorRect': 'setScissorRect', '*.setBlendConstant': 'setBlendConstant',
-  '*.setStencilReference': 'setStencilReference', '*.setImmediates': 'setImmediates', '*.writeTimestamp': 'writeTimestamp', '*.multiDrawIndirect': 'multiDrawIndirect',
+  '*.setImmediates': 'setImmediates', '*.writeTimestamp': 'writeTimestamp', '*.multiDrawIndirect': 'multiDrawIndirect',
   '*.multiDrawIndexedIndirect': 'multiDrawIndexedIndirect', 'GPUDevice.importExternalTexture': 'external texture',
 };
 const CALLS = { ...MAKING, ...QUEUE, ...RECORDING, ...DRAWING };

@@ -3,6 +3,15 @@
 // ---- what Web IDL makes of values, as far as it matters here ----
 const int = value => Math.trunc(Number(value));
 const optional = value => value === undefined ? undefined : int(value);
+// A fixed number stands for itself over 65536. A page's float is said by the nearest one, of two by the even one, and what is past all of them
+// by the greatest.
+const MOST_FIXED = 2 ** 53 - 1;
+function fixed(value) {
+  const exact = Math.abs(Math.fround(value)) * 65536, whole = Math.floor(exact), rest = exact - whole;
+  return Math.min(rest > 0.5 || rest === 0.5 && whole % 2 ? whole + 1 : whole, MOST_FIXED);
+}
+// One that is out of its range below 0 is so above it.
+const sized = value => Math.fround(value) < 0 ? MOST_FIXED : fixed(value);
 const isList = value => Symbol.iterator in Object(value);
 function extent(size) {
   const list = isList(size) ? [...size] : [size.width, size.height, size.depthOrArrayLayers];
@@ -40,6 +49,7 @@ function of(recording, object) {
   return it;
 }
 const nameOf = (recording, object) => of(recording, object).name;
+const nameOrNull = (recording, object) => object ? nameOf(recording, object) : null;
 
 // ---- words ----
 function format(word) {
@@ -170,12 +180,19 @@ function writesStencil(depthStencil, primitive) {
 }
 
 // ---- passes ----
+// Where a viewport begins to the left of what is attached, or above it, that is said beside the number.
+function viewport(x, y, width, height, minDepth, maxDepth) {
+  const at = { x: fixed(x), y: fixed(y) }, depths = { minDepth: sized(minDepth), maxDepth: sized(maxDepth) };
+  const left = x < 0 && at.x > 0 ? true : undefined, above = y < 0 && at.y > 0 ? true : undefined;
+  return slim({ x: at.x, left, y: at.y, above, width: sized(width), height: sized(height), ...depths });
+}
 function renderPass(recording, on, described) {
-  leaveBut(recording, 'renderPass', described, ['colorAttachments', 'depthStencilAttachment', 'occlusionQuerySet']);
+  leaveBut(recording, 'renderPass', described, ['colorAttachments', 'depthStencilAttachment', 'occlusionQuerySet', 'maxDrawCount']);
   const call = { do: 'beginRenderPass', on: nameOf(recording, on) }, { depthStencilAttachment, occlusionQuerySet } = described;
   call.colors = [...described.colorAttachments].map(color => color ? colorOf(recording, color) : null);
   if (depthStencilAttachment) call.depth = depthOf(recording, depthStencilAttachment);
   if (occlusionQuerySet) call.queries = nameOf(recording, occlusionQuerySet);
+  if (described.maxDrawCount !== undefined) call.maxDrawCount = int(described.maxDrawCount);
   return call;
 }
 function colorOf(recording, color) {

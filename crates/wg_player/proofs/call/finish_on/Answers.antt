@@ -15,7 +15,7 @@ use Rattle.wg_player.proofs.call.finish_on.Goals as goal
 pub returns-then-index-len-clause-done : goal.returns-then-index-len-clause-done
 returns-then-index-len-clause-done g c =
     let past : length c.args.own.now.items ≤ c.args.place = omega (arith, c.len.ensures, c.if-index-len.true) in
-    subst (λ (found : Option Object). IfOk c.ask.result (λ handle. PassHasAsked (setup_of c.args.device.now.lock).serial (finish_by (option_and_then recorder_in found) (event_asked c.args.asked.now)) (finish_known (option_and_then recorder_in found) (info_asked c.args.asked.now)) handle (own_of c.args.pass.now) (own_of c.ask.new.pass)))
+    subst (λ (found : Option Object). IfOk c.ask.result (λ handle. PassHasAsked (setup_of c.args.device.now.lock) (finish_by (option_and_then recorder_in found) (event_asked c.args.asked.now)) (finish_known (option_and_then recorder_in found) (info_asked c.args.asked.now)) handle (own_of c.args.pass.now) (own_of c.ask.new.pass)))
     (sym (slice_get_past c.args.own.now.items c.args.place past)) c.ask.ensures.done
 
 pub returns-clause-done : goal.returns-clause-done
@@ -23,7 +23,7 @@ returns-clause-done g c =
     let within : c.args.place < length c.args.own.now.items = omega (arith, c.len.ensures, c.if-index-len.false) in
     let is : slice_get c.args.own.now.items c.args.place ≡ Some c.index_mut.result.now
     = slice_get_read c.args.own.now.items (length c.args.own.now.items) c.args.place c.index_mut.result.now refl within c.index_mut.ensures.value in
-    subst (λ (found : Option Object). IfOk c.finish_in.result (λ handle. PassHasAsked (setup_of c.args.device.now.lock).serial (finish_by (option_and_then recorder_in found) (event_asked c.args.asked.now)) (finish_known (option_and_then recorder_in found) (info_asked c.args.asked.now)) handle (own_of c.args.pass.now) (own_of c.finish_in.new.pass)))
+    subst (λ (found : Option Object). IfOk c.finish_in.result (λ handle. PassHasAsked (setup_of c.args.device.now.lock) (finish_by (option_and_then recorder_in found) (event_asked c.args.asked.now)) (finish_known (option_and_then recorder_in found) (info_asked c.args.asked.now)) handle (own_of c.args.pass.now) (own_of c.finish_in.new.pass)))
     (sym is) c.finish_in.ensures.done
 
 pub returns-clause-taken : goal.returns-clause-taken

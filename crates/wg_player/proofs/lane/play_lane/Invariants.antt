@@ -8,5 +8,5 @@ abbrev pub invariant-loop-index : goal.invariant-loop-index
 invariant-loop-index g l = record {
   of : IsPassOf l.device.lock l.pass;
   same : SeesSame l.initial.seen l.seen;
-  moves : PassMoves (setup_of l.device.lock).serial l.device.lock (lane_at (sight_of l.initial.seen) l.calls 0) (lane_at (sight_of l.seen) l.calls l.index) l.initial.pass l.pass;
+  moves : PassMoves (setup_of l.device.lock) l.device.lock (lane_at (sight_of l.initial.seen) l.calls 0) (lane_at (sight_of l.seen) l.calls l.index) l.initial.pass l.pass;
 }

@@ -19,4 +19,4 @@ send-requires-clause-undropped c =
 pub returns-in-Ok-clause-seats : goal.returns-in-Ok-clause-seats
 returns-in-Ok-clause-seats c =
     c.in-Ok.ensures.seats
-    ∙ ap₂ (λ (event : Event) (known : Option Info). left_after event (c.args.self.now.seats ++ option_to_list (seat_made c.args.self.now.setup.serial known c.in-Ok.reply.answer))) c.in_ok-event.ensures c.in_ok-info.ensures
+    ∙ ap₂ (λ (event : Event) (known : Option Info). left_after event (c.args.self.now.seats ++ option_to_list (seat_made c.args.self.now.setup known c.in-Ok.reply.answer))) c.in_ok-event.ensures c.in_ok-info.ensures

@@ -38,7 +38,7 @@ returns-clause-seats c =
     let is : c.in_ok-asked.asked ≡ map_refs (found_at c.args.self.now.seats) c.args.request.now
     = c.in_ok-asked.ensures ∙ ap (λ (v : DeskValue). map_refs (found_at v.seats) c.args.request.now) c.self.view_is in
     c.in_ok-reply.ensures.seats
-    ∙ (ap (λ (asked : RequestOf HandleValue). left_after (event_asked asked) (c.args.self.now.seats ++ option_to_list (seat_made c.args.self.now.setup.serial (info_asked asked) c.in_ok-reply.reply.answer))) is
-    ∙ ap (λ (o : Option ℕ). option_map_or (emptied_at (seats_asked c.args.self.now.setup.serial c.args.self.now.seats c.args.request.now c.in_ok-reply.reply.answer)) o
-    (seats_asked c.args.self.now.setup.serial c.args.self.now.seats c.args.request.now c.in_ok-reply.reply.answer))
+    ∙ (ap (λ (asked : RequestOf HandleValue). left_after (event_asked asked) (c.args.self.now.seats ++ option_to_list (seat_made c.args.self.now.setup (info_asked asked) c.in_ok-reply.reply.answer))) is
+    ∙ ap (λ (o : Option ℕ). option_map_or (emptied_at (seats_asked c.args.self.now.setup c.args.self.now.seats c.args.request.now c.in_ok-reply.reply.answer)) o
+    (seats_asked c.args.self.now.setup c.args.self.now.seats c.args.request.now c.in_ok-reply.reply.answer))
     (drops_found c.args.self.now.setup c.args.self.now.history c.args.self.now.seats seated c.args.request.now c.requires))

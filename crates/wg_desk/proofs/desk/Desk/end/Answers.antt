@@ -6,12 +6,13 @@ use Rattle.wg_desk.specs.declared.seats.Seat.{Seat}
 use Rattle.wg_desk.specs.Seats.{handle_at, recorder_at, reopened_at, AreSeated}
 use Rattle.wg_desk.specs.Desks.{DeskValue, IsUnchanged}
 use Rattle.wg_desk.proofs.Refusing.{refused_one, refused_both}
-use Rattle.wg_desk.proofs.Seating.{closed_seated, closed_none, reopened_same, recorder_open, handle_genuine, handle_undropped, closed_handle}
+use Rattle.wg_desk.proofs.Seating.{closed_seated, closed_none, reopened_same, recorder_open, recorder_own, handle_genuine, handle_undropped, closed_handle}
 use Rattle.wg_desk.proofs.desk.Desk.end.Goals as goal
 
 pub invariant_of-self : goal.invariant_of-self
 invariant_of-self c = record {
   serial_is = c.self.invariant.serial_is;
+  limits_is = c.self.invariant.limits_is;
   seated = subst (λ (list : List Seat). AreSeated c.self.inside.core.setup c.self.inside.core.history list) (sym c.close_at.ensures.seats)
       (closed_seated c.self.inside.core.setup c.self.inside.core.history c.self.inside.seats.items c.args.number c.self.invariant.seated);
 }
@@ -19,6 +20,7 @@ invariant_of-self c = record {
 pub invariant_of-self-in-None : goal.invariant_of-self-in-None
 invariant_of-self-in-None c = record {
   serial_is = c.self.invariant.serial_is;
+  limits_is = c.self.invariant.limits_is;
   seated = subst (λ (list : List Seat). AreSeated c.self.inside.core.setup c.self.inside.core.history list) (sym c.close_at.ensures.seats)
       (closed_seated c.self.inside.core.setup c.self.inside.core.history c.self.inside.seats.items c.args.number c.self.invariant.seated);
 }
@@ -26,6 +28,11 @@ invariant_of-self-in-None c = record {
 pub end_open-requires-clause-open : goal.end_open-requires-clause-open
 end_open-requires-clause-open c =
     recorder_open c.self.inside.core.setup c.self.inside.core.history c.self.inside.seats.items c.args.number c.in-Some-close_at.recorder c.self.invariant.seated
+    (sym c.close_at.ensures.recorder ∙ c.in-Some-close_at.is)
+
+pub end_open-requires-clause-own : goal.end_open-requires-clause-own
+end_open-requires-clause-own c =
+    recorder_own c.self.inside.core.setup c.self.inside.core.history c.self.inside.seats.items c.args.number c.in-Some-close_at.recorder c.self.invariant.seated
     (sym c.close_at.ensures.recorder ∙ c.in-Some-close_at.is)
 
 pub end_open-requires-clause-undropped : goal.end_open-requires-clause-undropped

@@ -25,5 +25,5 @@ call_of-requires-clause-undropped c =
 pub returns-clause-seats : goal.returns-clause-seats
 returns-clause-seats c =
     c.in_ok-reply.ensures.seats
-    ∙ (ap (λ (asked : RequestOf HandleValue). left_after (event_asked asked) (c.args.self.now.seats ++ option_to_list (seat_made c.args.self.now.setup.serial (info_asked asked) c.in_ok-reply.reply.answer))) c.ending_asked.ensures
-    ∙ ending_leaves c.args.encoder (c.args.self.now.seats ++ option_to_list (seat_made c.args.self.now.setup.serial (info_asked (ending_asked c.args.encoder)) c.in_ok-reply.reply.answer)))
+    ∙ (ap (λ (asked : RequestOf HandleValue). left_after (event_asked asked) (c.args.self.now.seats ++ option_to_list (seat_made c.args.self.now.setup (info_asked asked) c.in_ok-reply.reply.answer))) c.ending_asked.ensures
+    ∙ ending_leaves c.args.encoder (c.args.self.now.seats ++ option_to_list (seat_made c.args.self.now.setup (info_asked (ending_asked c.args.encoder)) c.in_ok-reply.reply.answer)))

@@ -1,10 +1,12 @@
-use Rattle.std.proofs.Common.{ap, reverse, ◌∙◌, ◌++◌, Some, option_to_list}
+use Rattle.std.proofs.Common.{◌≡◌, ap, reverse, ◌∙◌, ◌++◌, Option, Some, option_to_list, unwrap_or}
 use Rattle.wg_types.specs.declared.handles.Info.{Info}
+use Rattle.wg_encoder.specs.Recorders.{RecordingValue}
 use Rattle.wg_history.specs.declared.events.Event.{Event}
 use Rattle.wg_state.specs.Gone.{named_by}
 use Rattle.wg_desk.specs.Seats.{seat_made}
+use Rattle.wg_desk.specs.Sent.{handed_over}
 use Rattle.wg_desk.specs.Desks.{any_dropped}
-use Rattle.wg_desk.proofs.Sending.{finished_so, finish_names, finish_leaves, hands_over}
+use Rattle.wg_desk.proofs.Sending.{finished_so, finish_names, finish_leaves, hands_over, is_handed_over}
 use Rattle.wg_desk.proofs.desk.Desk.hand_over.Goals as goal
 
 pub send-requires-clause-makes : goal.send-requires-clause-makes
@@ -22,4 +24,9 @@ pub returns-in-Ok-send-clause-seats : goal.returns-in-Ok-send-clause-seats
 returns-in-Ok-send-clause-seats c =
     c.in-Ok-send.ensures.seats
     ∙ (finish_leaves c.args.recording.targets c.args.encoder c.args.recording c.finish_event.result _ c.finish_event.ensures
-    ∙ ap (λ (info : Info). c.args.self.now.seats ++ option_to_list (seat_made c.args.self.now.setup.serial (Some info) c.in-Ok-send.reply.answer)) c.in-Ok.ensures)
+    ∙ ap (λ (info : Info). c.args.self.now.seats ++ option_to_list (seat_made c.args.self.now.setup (Some info) c.in-Ok-send.reply.answer)) c.in-Ok.ensures)
+
+pub returns-in-Err-clause-back : goal.returns-in-Err-clause-back
+returns-in-Err-clause-back c =
+    let same : Some c.recording_in.result ≡ Some c.args.recording = c.recording_in.ensures ∙ (ap handed_over (c.in-Err.ensures.back ∙ c.finish_event.ensures) ∙ is_handed_over c.args.recording.targets c.args.encoder c.args.recording) in
+    ap (λ (o : Option RecordingValue). unwrap_or o c.args.recording) same

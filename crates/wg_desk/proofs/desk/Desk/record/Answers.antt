@@ -10,6 +10,7 @@ use Rattle.wg_desk.proofs.desk.Desk.record.Goals as goal
 pub invariant_of-self-in-Kept : goal.invariant_of-self-in-Kept
 invariant_of-self-in-Kept c = record {
   serial_is = c.self.invariant.serial_is;
+  limits_is = c.self.invariant.limits_is;
   seated = subst (λ (list : List Seat). AreSeated c.self.inside.core.setup c.self.inside.core.history list) (sym c.in_ok-record_at.ensures.after)
       (recorded_seated c.self.inside.core.setup c.self.inside.core.history c.self.inside.seats.items c.args.encoder c.args.on c.in_ok-command.command c.self.invariant.seated);
 }
@@ -17,6 +18,7 @@ invariant_of-self-in-Kept c = record {
 pub invariant_of-self-in-Late : goal.invariant_of-self-in-Late
 invariant_of-self-in-Late c = record {
   serial_is = c.self.invariant.serial_is;
+  limits_is = c.self.invariant.limits_is;
   seated = subst (λ (list : List Seat). AreSeated c.self.inside.core.setup c.self.inside.core.history list) (sym c.in_ok-record_at.ensures.after)
       (recorded_seated c.self.inside.core.setup c.self.inside.core.history c.self.inside.seats.items c.args.encoder c.args.on c.in_ok-command.command c.self.invariant.seated);
 }

@@ -20,20 +20,20 @@ step-requires c =
     none_gone c.self.inside.core.setup (reverse c.self.inside.core.history) c.self.inside.core.gone (named_by c.args.event) c.dead_holds.ensures undropped
 
 -- What the event made is seated, and the seat of what it dropped is empty.
-grown : (c : goal.After-empty) → c.empty.new.self.items ≡ left_after c.args.event (c.self.inside.seats.items ++ option_to_list (seat_made c.self.inside.core.setup.serial c.args.info c.in_ok-reply.reply.answer))
+grown : (c : goal.After-empty) → c.empty.new.self.items ≡ left_after c.args.event (c.self.inside.seats.items ++ option_to_list (seat_made c.self.inside.core.setup c.args.info c.in_ok-reply.reply.answer))
 grown c =
     let last : c.len.result ≡ length c.self.inside.seats.items = c.len.ensures ∙ ap (λ (list : List Seat). length list) c.reserve.ensures.items in
-    let more : c.add.new.self.items ≡ c.self.inside.seats.items ++ option_to_list (seat_made c.self.inside.core.setup.serial c.args.info c.in_ok-reply.reply.answer)
+    let more : c.add.new.self.items ≡ c.self.inside.seats.items ++ option_to_list (seat_made c.self.inside.core.setup c.args.info c.in_ok-reply.reply.answer)
     = c.add.ensures
     ∙ (ap (λ (list : List Seat). list ++ option_to_list c.seat_from-made.result) c.reserve.ensures.items
     ∙ ap (λ (made : Option Seat). c.self.inside.seats.items ++ option_to_list made)
     (c.seat_from-made.ensures
-    ∙ made_is c.self.inside.core.setup c.self.inside.core.history c.self.inside.seats.items c.self.inside.serial c.len.result c.args.event c.in_ok-reply.reply c.args.info (expected c.in-Ok.coming)
-    c.self.invariant.serial_is last c.self.invariant.seated c.in_ok-reply.ensures.reply c.in-Ok.ensures)) in
+    ∙ made_is c.self.inside.core.setup c.self.inside.core.history c.self.inside.seats.items c.self.inside.serial c.self.inside.limits c.len.result c.args.event c.in_ok-reply.reply c.args.info (expected c.in-Ok.coming)
+    c.self.invariant.serial_is c.self.invariant.limits_is last c.self.invariant.seated c.in_ok-reply.ensures.reply c.in-Ok.ensures)) in
     c.empty.ensures
     ∙ (ap (λ (list : List Seat). option_map_or (emptied_at list) c.dropped_number-dropped.result list) more
-    ∙ ap (λ (o : Option ℕ). option_map_or (emptied_at (c.self.inside.seats.items ++ option_to_list (seat_made c.self.inside.core.setup.serial c.args.info c.in_ok-reply.reply.answer))) o
-    (c.self.inside.seats.items ++ option_to_list (seat_made c.self.inside.core.setup.serial c.args.info c.in_ok-reply.reply.answer))) c.dropped_number-dropped.ensures)
+    ∙ ap (λ (o : Option ℕ). option_map_or (emptied_at (c.self.inside.seats.items ++ option_to_list (seat_made c.self.inside.core.setup c.args.info c.in_ok-reply.reply.answer))) o
+    (c.self.inside.seats.items ++ option_to_list (seat_made c.self.inside.core.setup c.args.info c.in_ok-reply.reply.answer))) c.dropped_number-dropped.ensures)
 
 pub invariant_of-self-2 : goal.invariant_of-self-2
 invariant_of-self-2 c =
@@ -41,6 +41,7 @@ invariant_of-self-2 c =
     = subst (λ (v : DeskValue). MakesGenuine v.setup v.history c.args.event c.args.info) (sym c.self.view_is) c.requires.makes in
     record {
       serial_is = c.self.invariant.serial_is ∙ ap (λ (setup : Setup). setup.serial) (sym c.step.ensures.setup);
+      limits_is = c.self.invariant.limits_is ∙ ap (λ (setup : Setup). setup.limits) (sym c.step.ensures.setup);
       seated = subst (λ (setup : Setup). AreSeated setup c.step.new.self.history c.empty.new.self.items) (sym c.step.ensures.setup)
           (send_seated c.self.inside.core.setup c.self.inside.core.history c.step.new.self.history c.self.inside.seats.items c.empty.new.self.items c.args.who c.args.event c.in_ok-reply.reply c.args.info
           c.self.invariant.seated makes c.in_ok-reply.ensures.reply c.in_ok-reply.ensures.history (grown c));
@@ -48,4 +49,4 @@ invariant_of-self-2 c =
 
 pub returns-clause-seats : goal.returns-clause-seats
 returns-clause-seats c =
-    subst (λ (v : DeskValue). c.empty.new.self.items ≡ left_after c.args.event (v.seats ++ option_to_list (seat_made v.setup.serial c.args.info c.in_ok-reply.reply.answer))) c.self.view_is (grown c)
+    subst (λ (v : DeskValue). c.empty.new.self.items ≡ left_after c.args.event (v.seats ++ option_to_list (seat_made v.setup c.args.info c.in_ok-reply.reply.answer))) c.self.view_is (grown c)
