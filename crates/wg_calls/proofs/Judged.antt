@@ -18,13 +18,13 @@ use Rattle.wg_history.specs.declared.events.Setup.{Setup}
 use Rattle.wg_history.specs.Entries.{Past}
 use Rattle.wg_history.specs.Rules.{encoder_rules, kept_rules, recording_rules, finish_rule, finish_bundle_rule}
 use Rattle.wg_history.specs.FirstRules.{first_rule}
-use Rattle.wg_calls.specs.Calls.{finish_event, recording_of, handle_of, opened_for, opened_with}
+use Rattle.wg_calls.specs.Calls.{finish_event, recording_of, handle_of, maker_with, opened_for, opened_with}
 use Rattle.wg_calls.specs.Encoders.{recorder_of}
 use Rattle.wg_calls.specs.Judged.{maker_of, IsRecorderOf, IsJudgedBy, kind_ended, OpensForDevice, JudgesByDevice}
 
 -- A recorder has the number and the limits with which it was opened.
 pub opened_by : (limits : Limits) (encoder : ObjRef) (info : Info) (recorder : RecorderValue) → recorder_of limits encoder info ≡ Some recorder
-    → recorder.maker ≡ record { device = encoder.device; limits = limits }
+    → recorder.maker ≡ maker_with encoder.device limits
 opened_by limits encoder Encoder recorder is = let same : recorder ≡ opened_for limits encoder = cc (is) in ap (λ (r : RecorderValue). r.maker) same
 opened_by limits encoder (BundleEncoder targets) recorder is = let same : recorder ≡ opened_with limits targets encoder = cc (is) in ap (λ (r : RecorderValue). r.maker) same
 opened_by limits encoder _ recorder is = absurd (cc (is))
@@ -33,7 +33,7 @@ opened_by limits encoder _ recorder is = absurd (cc (is))
 pub opened_own : (setup : Setup) (encoder : ObjRef) (info : Info) (recorder : RecorderValue) → encoder.device ≡ setup.serial → recorder_of setup.limits encoder info ≡ Some recorder
     → IsRecorderOf setup recorder
 opened_own setup encoder info recorder own is =
-    opened_by setup.limits encoder info recorder is ∙ ap (λ (device : ℕ). record { device = device; limits = setup.limits }) own
+    opened_by setup.limits encoder info recorder is ∙ ap (λ (device : ℕ). maker_with device setup.limits) own
 
 pub opens_for_device : OpensForDevice
 opens_for_device setup past handle recorder genuine is =

@@ -18,7 +18,7 @@ use Rattle.wg_types.specs.declared.requests.RequestOf.TheVariants.{CreateBuffer,
 use Rattle.wg_model.specs.Commands.{texture_of, no_texture, size_or_rest}
 use Rattle.wg_model.specs.Making.{view_made, pipeline_layout_made, group_made, compute_made, render_made, group_layout_made, group_layout_got}
 use Rattle.wg_model.specs.Views.{completed_view}
-use Rattle.wg_model.specs.Walk.{no_limits, no_targets, bundle_of}
+use Rattle.wg_model.specs.Walk.{command_limits, no_limits, no_targets, bundle_of}
 use Rattle.wg_encoder.specs.Recorders.{RecorderValue, RecordingValue, after_take, targets_left}
 use Rattle.wg_history.specs.declared.events.Event.{Event}
 use Rattle.wg_history.specs.declared.events.Event.TheVariants as event
@@ -146,10 +146,14 @@ handle_of serial known BadCompletion = None
 abbrev pub handle_made : ℕ → RequestOf HandleValue → Answer → Option HandleValue
 handle_made serial request answer = option_and_then (λ known. handle_of serial known answer) (info_asked request)
 
+-- a device as its recorders have it: by its number, and those of its limits by which commands are judged
+abbrev pub maker_with : ℕ → Limits → Maker
+maker_with device limits = record { device = device; limits = command_limits limits }
+
 -- a recorder that was opened for an encoder of a device with these limits, and has kept nothing
 abbrev pub opened_for : Limits → ObjRef → RecorderValue
-opened_for limits encoder = record { maker = record { device = encoder.device; limits = limits }; targets = None; encoder = Some encoder; commands = []; takes = 0; passes = 0 }
+opened_for limits encoder = record { maker = maker_with encoder.device limits; targets = None; encoder = Some encoder; commands = []; takes = 0; passes = 0 }
 
 -- a recorder that is open for a bundle encoder of such a device, draws to these targets, and has kept nothing
 abbrev pub opened_with : Limits → TargetInfo → ObjRef → RecorderValue
-opened_with limits targets encoder = record { maker = record { device = encoder.device; limits = limits }; targets = Some targets; encoder = Some encoder; commands = []; takes = 0; passes = 0 }
+opened_with limits targets encoder = record { maker = maker_with encoder.device limits; targets = Some targets; encoder = Some encoder; commands = []; takes = 0; passes = 0 }

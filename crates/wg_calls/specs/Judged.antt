@@ -15,12 +15,12 @@ use Rattle.wg_history.specs.Entries.{Past}
 use Rattle.wg_history.specs.Objects.{is_encoder, is_bundle_encoder}
 use Rattle.wg_history.specs.Rules.{is_genuine, encoder_rules}
 use Rattle.wg_history.specs.FirstRules.{first_rule}
-use Rattle.wg_calls.specs.Calls.{finish_of}
+use Rattle.wg_calls.specs.Calls.{finish_of, maker_with}
 use Rattle.wg_calls.specs.Encoders.{recorder_of}
 
--- a device as its recorders have it: by its number and its limits
+-- a device as its recorders have it
 abbrev pub maker_of : Setup → Maker
-maker_of setup = record { device = setup.serial; limits = setup.limits }
+maker_of setup = maker_with setup.serial setup.limits
 
 -- A recorder is of a device: its commands are judged by the number and the limits of that.
 abbrev pub IsRecorderOf : Setup → RecorderValue → Type 0

@@ -5,7 +5,7 @@ ghost use Rattle.wg_calls.specs.Calls.{opened_for, opened_with};
 ghost use Rattle.wg_calls.specs.Encoders.{ended_by, recorder_of, is_begun};
 
 use std::alloc::Global;
-use wg_encoder::Recorder;
+use wg_encoder::{Recorder, command_limits};
 use wg_entry::NoMemory;
 use wg_types::commands::On;
 use wg_types::handles::{Info, ObjRef};
@@ -29,7 +29,7 @@ pub fn ended_by<R: Copy>(request: &RequestOf<R>) -> Option<R>
 pub fn recorder_for(alloc: Global, encoder: ObjRef, limits: &Limits) -> Recorder
     ensures { result ≡ opened_for limits.now encoder }
 {
-    let mut recorder = Recorder::new(alloc, encoder.device, limits);
+    let mut recorder = Recorder::new(alloc, encoder.device, &command_limits(limits));
     recorder.open(encoder, true);
     recorder
 }
@@ -44,7 +44,7 @@ pub fn bundle_recorder_for(
 ) -> Recorder
     ensures { result ≡ opened_with limits.now targets encoder }
 {
-    let mut recorder = Recorder::bundle(alloc, encoder.device, targets, limits);
+    let mut recorder = Recorder::bundle(alloc, encoder.device, targets, &command_limits(limits));
     recorder.open(encoder, true);
     recorder
 }

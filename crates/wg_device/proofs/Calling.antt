@@ -22,7 +22,7 @@ use Rattle.wg_history.specs.Answers.{reply_to, IsRun}
 use Rattle.wg_history.proofs.Runs.{newest}
 use Rattle.wg_turn.specs.Entries.{entry}
 use Rattle.wg_turn.specs.Passes.{number_of}
-use Rattle.wg_calls.specs.Calls.{event_asked, info_asked, handle_of, handle_made, finish_of, known_of_finish, recording_of}
+use Rattle.wg_calls.specs.Calls.{event_asked, info_asked, handle_of, handle_made, finish_of, known_of_finish, recording_of, maker_with}
 use Rattle.wg_calls.specs.Judged.{IsRecorderOf}
 use Rattle.wg_calls.proofs.Judged.{made_device}
 use Rattle.wg_calls.proofs.Genuine.{genuine_made, gives_handle, genuine_finish, gives_finish}
@@ -82,9 +82,9 @@ finished_gives lock old new encoder recorder known reply act is =
 
 -- The recorder of an encoder that the device made is of the device.
 pub opens_own : (lock : Lock) (request : RequestOf HandleValue) (reply : Reply) (handle : HandleValue) (recorder : RecorderValue) → IsHandleOf lock request reply handle
-    → recorder.maker ≡ record { device = handle.reference.device; limits = (setup_of lock).limits } → IsRecorderOf (setup_of lock) recorder
+    → recorder.maker ≡ maker_with handle.reference.device (setup_of lock).limits → IsRecorderOf (setup_of lock) recorder
 opens_own lock request reply handle recorder of made =
-    made ∙ ap (λ (device : ℕ). record { device = device; limits = (setup_of lock).limits }) (made_device (setup_of lock).serial (info_asked request) reply.answer handle of)
+    made ∙ ap (λ (device : ℕ). maker_with device (setup_of lock).limits) (made_device (setup_of lock).serial (info_asked request) reply.answer handle of)
 
 -- What a call names is genuine.
 

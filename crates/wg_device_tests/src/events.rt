@@ -2,7 +2,7 @@
 use std::alloc::Global;
 use std::sync::Arc;
 use wg_core::{Core, Event, LoggedCore, Spent};
-use wg_encoder::{Recorder, Recording};
+use wg_encoder::{Recorder, Recording, command_limits};
 use wg_limits::default_limits;
 use wg_turn::Logged;
 use wg_types::NoMemory;
@@ -103,14 +103,14 @@ fn forged_copy(alloc: Global) -> Result<Command, NoMemory> {
 
 /// What a recorder of an encoder keeps of a command that it takes. Without memory it keeps none.
 fn kept(alloc: Global, command: Command) -> Recording {
-    let mut recorder = Recorder::new(alloc, 1, &default_limits());
+    let mut recorder = Recorder::new(alloc, 1, &command_limits(&default_limits()));
     let _ = recorder.record(On::Encoder, command);
     recorder.take()
 }
 
 /// What a recorder keeps of no commands.
 fn empty(alloc: Global) -> Recording {
-    Recorder::new(alloc, 1, &default_limits()).take()
+    Recorder::new(alloc, 1, &command_limits(&default_limits())).take()
 }
 
 /// A finish of encoder 5 with that copy.

@@ -1,12 +1,12 @@
-//! To what a bundle encoder draws, and the limits of no device.
+//! To what a bundle encoder draws, and the limits by which commands are judged.
 ghost use Rattle.std.specs.Prelude.{◌≡◌, Some, None, option_copied};
-ghost use Rattle.wg_model.specs.Walk.{no_targets, no_limits};
+ghost use Rattle.wg_model.specs.Walk.{command_limits, no_limits, no_targets};
 ghost use Rattle.wg_encoder.specs.Recorders.{targets_left};
 
 use std::alloc::Global;
 use std::marker::Model;
 use wg_types::items::Items;
-use wg_types::limits::Limits;
+use wg_types::limits::{CommandLimits, Limits};
 use wg_types::render::TargetInfo;
 use wg_types::shared::Shared;
 
@@ -46,35 +46,21 @@ pub fn no_targets(alloc: Global) -> TargetInfo
     }
 }
 
+/// Those of the limits of a device by which commands are judged.
+pub fn command_limits(limits: &Limits) -> CommandLimits
+    ensures { result ≡ command_limits limits.now }
+{
+    CommandLimits {
+        max_texture_dimension_2d: limits.max_texture_dimension_2d,
+    }
+}
+
 /// The limits of no device, of a recording that no recorder made.
-pub fn no_limits() -> Limits
+pub fn no_limits() -> CommandLimits
     ensures { result ≡ no_limits }
 {
-    Limits {
-        max_texture_dimension_1d: 0,
+    CommandLimits {
         max_texture_dimension_2d: 0,
-        max_texture_dimension_3d: 0,
-        max_texture_array_layers: 0,
-        max_bind_groups: 0,
-        max_bindings_per_bind_group: 0,
-        max_dynamic_uniform_buffers_per_pipeline_layout: 0,
-        max_dynamic_storage_buffers_per_pipeline_layout: 0,
-        max_sampled_textures_per_shader_stage: 0,
-        max_samplers_per_shader_stage: 0,
-        max_storage_buffers_per_shader_stage: 0,
-        max_storage_textures_per_shader_stage: 0,
-        max_uniform_buffers_per_shader_stage: 0,
-        max_uniform_buffer_binding_size: 0,
-        max_storage_buffer_binding_size: 0,
-        min_uniform_buffer_offset_alignment: 0,
-        min_storage_buffer_offset_alignment: 0,
-        max_vertex_buffers: 0,
-        max_vertex_attributes: 0,
-        max_vertex_buffer_array_stride: 0,
-        max_buffer_size: 0,
-        max_color_attachments: 0,
-        max_compute_workgroups_per_dimension: 0,
-        max_queries_per_set: 0,
     }
 }
 

@@ -19,7 +19,7 @@ use Rattle.wg_types.specs.declared.render.DepthState.{DepthState}
 use Rattle.wg_types.specs.declared.render.RenderDesc.{RenderDesc}
 use Rattle.wg_types.specs.declared.render.TargetInfo.{TargetInfo}
 use Rattle.wg_types.specs.declared.render.Viewport.{Viewport}
-use Rattle.wg_types.specs.declared.limits.Limits.{Limits}
+use Rattle.wg_types.specs.declared.limits.CommandLimits.{CommandLimits}
 use Rattle.wg_types.specs.declared.commands.BoundGroup.{BoundGroup}
 use Rattle.wg_types.specs.declared.commands.Bracket.{Bracket}
 use Rattle.wg_types.specs.declared.commands.Bracket.TheVariants as brackets
@@ -439,7 +439,7 @@ side_fits limit false at size = nat_le (at + size + fixed 1) (fixed (2 * limit))
 
 -- setViewport (WebGPU, "setViewport()"): 400 neither width nor height is above the limit of 2D textures; 401 each side is where
 -- the limit allows it; 402 the least depth is at most the greatest, and that at most 1
-abbrev pub viewport_rules : Limits → Viewport → List Rule
+abbrev pub viewport_rules : CommandLimits → Viewport → List Rule
 viewport_rules limits viewport = (
   VIEWPORT_SIZE_IS_WITHIN_LIMIT,
   nat_le viewport.width (fixed limits.max_texture_dimension_2d) && nat_le viewport.height (fixed limits.max_texture_dimension_2d),
@@ -457,7 +457,7 @@ abbrev pub scissor_rules : ℕ × ℕ → ℕ → ℕ → ℕ → ℕ → List R
 scissor_rules extent x y width height = (SCISSOR_FITS_ATTACHMENTS, nat_le (x + width) extent.0 && nat_le (y + height) extent.1) ∷ []
 
 -- the rules of what is set in render passes alone, by the limits of the device and the extent of what is attached
-abbrev pub setting_rules : Limits → ℕ × ℕ → Setting HandleValue → List Rule
+abbrev pub setting_rules : CommandLimits → ℕ × ℕ → Setting HandleValue → List Rule
 setting_rules limits extent (set_pipeline pipeline) = []
 setting_rules limits extent (set_group index group offsets) = []
 setting_rules limits extent (set_vertex_buffer slot buffer offset size) = given_vertex_rules slot buffer offset size
@@ -477,7 +477,7 @@ running_rules render (draw_indirect buffer offset) = draw_indirect_rules render 
 running_rules render (draw_indexed_indirect buffer offset) = draw_indexed_indirect_rules render buffer offset
 
 -- the rules of what a command is to a render pass or a bundle encoder: what it sets, draws, asks or executes
-abbrev pub drawing_rules_by : Limits → RenderSet → Act HandleValue → List Rule
+abbrev pub drawing_rules_by : CommandLimits → RenderSet → Act HandleValue → List Rule
 drawing_rules_by limits render (begins begin) = []
 drawing_rules_by limits render (sets setting) = setting_rules limits render.extent setting
 drawing_rules_by limits render (runs running) = running_rules render running
@@ -486,7 +486,7 @@ drawing_rules_by limits render (executes bundles) = execute_rules render.targets
 drawing_rules_by limits render neither = []
 
 -- the rules of what a command sets, draws, asks or executes in a render pass or a bundle
-abbrev pub drawing_rules : Limits → RenderSet → Command → List Rule
+abbrev pub drawing_rules : CommandLimits → RenderSet → Command → List Rule
 drawing_rules limits render command = drawing_rules_by limits render (act command)
 
 -- the end of a render pass (WebGPU, "end"): 404 it draws no more often than it may, where that is given
@@ -510,7 +510,7 @@ draws_rules most draws command = draws_rules_by most draws (bracket command)
 -- the rules of a command of a render pass or on a bundle encoder, over what is set, but for those on the objects that it
 -- names: of debug groups, of the end, 310, then 311 and then 404, of a pipeline that is set, of a group that is set, and of
 -- buffers, viewports, draws, queries and bundles
-abbrev pub render_rules : Limits → RenderSet → Command → List Rule
+abbrev pub render_rules : CommandLimits → RenderSet → Command → List Rule
 render_rules limits render command =
     debug_rules render.set.depth command
     ++ (end_rules render.set.depth command

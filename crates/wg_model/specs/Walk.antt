@@ -21,6 +21,7 @@ use Rattle.wg_model.specs.Bundles.{bundle_touches, references_within}
 use Rattle.wg_types.specs.declared.bundles.BundleInfo.{BundleInfo}
 use Rattle.wg_types.specs.declared.bundles.BundleTouch.{BundleTouch}
 use Rattle.wg_types.specs.declared.render.TargetInfo.{TargetInfo}
+use Rattle.wg_types.specs.declared.limits.CommandLimits.{CommandLimits}
 use Rattle.wg_types.specs.declared.limits.Limits.{Limits}
 use Rattle.wg_types.specs.declared.limits.Maker.{Maker}
 use Rattle.wg_trace.specs.declared.steps.StepName.TheVariants as name
@@ -260,34 +261,13 @@ DeedsOf maker (Some targets) commands = []
 abbrev pub recorded_touches : Maker → TargetInfo → List Command → List BundleTouch
 recorded_touches maker targets earlier = if is_none (bundle_verdict maker targets earlier) then bundle_touches (bundle_set targets earlier).touches else []
 
+-- of the limits of a device, those by which commands are judged while they are recorded
+abbrev pub command_limits : Limits → CommandLimits
+command_limits limits = record { max_texture_dimension_2d = limits.max_texture_dimension_2d }
+
 -- the limits of nothing, as of a recording that no recorder made
-abbrev pub no_limits : Limits
-no_limits = record {
-  max_texture_dimension_1d = 0;
-  max_texture_dimension_2d = 0;
-  max_texture_dimension_3d = 0;
-  max_texture_array_layers = 0;
-  max_bind_groups = 0;
-  max_bindings_per_bind_group = 0;
-  max_dynamic_uniform_buffers_per_pipeline_layout = 0;
-  max_dynamic_storage_buffers_per_pipeline_layout = 0;
-  max_sampled_textures_per_shader_stage = 0;
-  max_samplers_per_shader_stage = 0;
-  max_storage_buffers_per_shader_stage = 0;
-  max_storage_textures_per_shader_stage = 0;
-  max_uniform_buffers_per_shader_stage = 0;
-  max_uniform_buffer_binding_size = 0;
-  max_storage_buffer_binding_size = 0;
-  min_uniform_buffer_offset_alignment = 0;
-  min_storage_buffer_offset_alignment = 0;
-  max_vertex_buffers = 0;
-  max_vertex_attributes = 0;
-  max_vertex_buffer_array_stride = 0;
-  max_buffer_size = 0;
-  max_color_attachments = 0;
-  max_compute_workgroups_per_dimension = 0;
-  max_queries_per_set = 0;
-}
+abbrev pub no_limits : CommandLimits
+no_limits = record { max_texture_dimension_2d = 0 }
 
 -- how often the bundle draws that a recording makes: where some rule was unmet, not at all
 abbrev pub recorded_draws : Maker → TargetInfo → List Command → ℕ

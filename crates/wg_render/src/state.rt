@@ -32,7 +32,7 @@ use wg_rules::{
 use wg_types::NoMemory;
 use wg_types::commands::Command;
 use wg_types::handles::Handle;
-use wg_types::limits::Limits;
+use wg_types::limits::CommandLimits;
 use wg_types::render::TargetInfo;
 use wg_types::steps::Touch;
 use wg_types::vertex::IndexFormat;
@@ -249,7 +249,7 @@ impl RenderState {
 
     /// The first unmet rule of what draws, sets a vertex buffer or the index buffer, the viewport or the
     /// scissor rectangle, executes bundles, or begins or ends a query, by the limits of the device.
-    fn drawing_rule(&self, limits: &Limits, command: &Command) -> Option<u16>
+    fn drawing_rule(&self, limits: &CommandLimits, command: &Command) -> Option<u16>
         ensures { result ≡ first_unmet (drawing_rules limits.now self.now command.now) }
     {
         match command {
@@ -301,7 +301,7 @@ impl RenderState {
     /// The number of the first unmet rule of a command, but for those on the objects that it names
     /// (WebGPU, "GPURenderCommandsMixin"), on a device with these limits; none where the command may be taken.
     #[tactic(auto, using(crate::proofs::Rules::rules_parted))]
-    pub fn rule(&self, limits: &Limits, command: &Command) -> Option<u16>
+    pub fn rule(&self, limits: &CommandLimits, command: &Command) -> Option<u16>
         ensures { result ≡ first_unmet (render_rules limits.now self.now command.now) }
     {
         if let Some(rule) = check_group(self.set.depth(), command) {

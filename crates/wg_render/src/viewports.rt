@@ -10,7 +10,7 @@ use wg_rules::{
 };
 use wg_types::NoMemory;
 use wg_types::commands::{Bracket, Command};
-use wg_types::limits::Limits;
+use wg_types::limits::CommandLimits;
 use wg_types::render::Viewport;
 
 /// One, as the numbers of viewports stand.
@@ -37,7 +37,7 @@ fn side_fits(limit: u32, before: bool, at: u64, size: u64) -> bool
 }
 
 /// The first unmet rule of setViewport (WebGPU, "setViewport()").
-pub fn check_viewport(limits: &Limits, viewport: &Viewport) -> Option<u16>
+pub fn check_viewport(limits: &CommandLimits, viewport: &Viewport) -> Option<u16>
     ensures { result ≡ first_unmet (viewport_rules limits.now viewport.now) }
 {
     let limit = limits.max_texture_dimension_2d;

@@ -4,7 +4,7 @@ use Rattle.std.specs.List.{flat_map, list_all}
 use Rattle.std.specs.Option.{option_to_list}
 use Rattle.std.proofs.Common.{◌≡◌, ℕ, ◌<◌, ◌≤◌, List, [], ◌∷◌, ◌++◌, map, Bool, true, false, Option, Some, None, arith, refl, if◌then◌else◌}
 use Rattle.std.proofs.lemmas.Bool.{and_parts, ltb-true}
-use Rattle.wg_types.specs.declared.limits.Limits.{Limits}
+use Rattle.wg_types.specs.declared.limits.CommandLimits.{CommandLimits}
 use Rattle.wg_types.specs.declared.limits.Maker.{Maker}
 use Rattle.wg_types.specs.Handles.{HandleValue}
 use Rattle.wg_types.specs.Commands.{Command, bracket, named, named_on}
@@ -118,7 +118,7 @@ query_small : (queries : Option (ℕ × ℕ)) (occlusion : Occlusion) (index : �
 query_small None occlusion index h met = tt
 query_small (Some set) occlusion index h met = (let below : index < set.1 = ltb-true index set.1 met.1.0 in omega (arith, below, h), tt)
 
-render_given : (limits : Limits) (render : RenderSet) (command : Command) → AreMet (render_rules limits render command) → AreMet (given_rules command) × AreMet (drawing_rules limits render command)
+render_given : (limits : CommandLimits) (render : RenderSet) (command : Command) → AreMet (render_rules limits render command) → AreMet (given_rules command) × AreMet (drawing_rules limits render command)
 render_given limits render command met =
     let both =
     met_behind (pipeline_given_rules render.targets (pipeline_given command)) (given_rules command ++ drawing_rules limits render command)
@@ -128,7 +128,7 @@ render_given limits render command met =
     (met_behind (debug_rules render.set.depth command) (end_rules render.set.depth command ++ (pass_end_rules render.occlusion.active command ++ (draws_rules render.most render.draws command ++ (pipeline_given_rules render.targets (pipeline_given command) ++ (given_rules command ++ drawing_rules limits render command))))) met)))) in
     (met_front (given_rules command) (drawing_rules limits render command) both, met_behind (given_rules command) (drawing_rules limits render command) both)
 
-drawn_small : (limits : Limits) (render : RenderSet) (command : Command) → AreSmallQueries render.queries → IsSmallCommand command → AreValid (named command) → AreMet (given_rules command) → AreMet (drawing_rules limits render command)
+drawn_small : (limits : CommandLimits) (render : RenderSet) (command : Command) → AreSmallQueries render.queries → IsSmallCommand command → AreValid (named command) → AreMet (given_rules command) → AreMet (drawing_rules limits render command)
     → AreSmallTouches (command_touches render.queries command)
 drawn_small limits render (SetBindGroup index None offsets) queries small valid given met = tt
 drawn_small limits render (SetBindGroup index (Some group) offsets) queries small valid given met =
