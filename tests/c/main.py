@@ -13,6 +13,7 @@ import concurrent.futures
 import json
 import os
 import pathlib
+import re
 import shutil
 import subprocess
 import sys
@@ -29,17 +30,16 @@ HERE = pathlib.Path(__file__).resolve().parent
 INCLUDE, EXAMPLES = TOP / "include", TOP / "examples/c"
 WARNINGS = ["-Wall", "-Wextra", "-Werror"]
 C, CXX = ["-std=c99", *WARNINGS], ["-std=c++17", *WARNINGS]
+C11 = ["-std=c11", *WARNINGS, "-Wpedantic", "-Wconversion"]
 NAMES_DROPPED = 4
 SECONDS = 600
-# Each allocation is refused on these, and valgrind plays them: a whole frame, a bundle with queries, what passes are set to and what is
-# null, and callers that race.
-CLOSELY = [
-    "examples/realistic-frame",
-    "tests/cases/bundles/bundle-and-occlusion-queries",
-    "tests/cases/script/every-key-of-states",
-    "examples/submit-races-destroy",
-]
+# Each allocation is refused on these, and valgrind plays them: a whole frame, a bundle with queries, and callers that race.
+CLOSELY = ["examples/realistic-frame", "tests/cases/bundles/bundle-and-occlusion-queries", "examples/submit-races-destroy"]
 CALLS_OF_THREADS = 40_000
+# The sources of the engine with a software driver, how many frames it runs, and what its driver can be told to leave out.
+ENGINE = sorted(EXAMPLES.glob("engine*.c"))
+FRAMES = 1000
+FORGOTTEN = ("barriers", "clears", "shadow", "zeros")
 # The sources of the program that plays scripts. What else lies beside them is a program of its own.
 PLAYER = ("play", "calls", "refuse")
 # Types with values that they are to take, and with values that they are not to.
@@ -96,6 +96,8 @@ def test_header():
             compiles([compiler, *C, "-pedantic", "-x", "c"], "-", f"the headers by {compiler}", input=both)
             for source in [*sorted(EXAMPLES.glob("*.c")), *(sorted(HERE.glob("*.c")) if has_library() else [])]:
                 compiles([compiler, *C, "-pedantic"], source, f"{source.name} by {compiler}")
+            for source in ENGINE:
+                compiles([compiler, *C11], source, f"{source.name} by {compiler} as C11")
     for compiler in ("g++", "clang++"):
         if shutil.which(compiler):
             compiles([compiler, *CXX, "-pedantic", "-x", "c++"], header, f"the header by {compiler}")
@@ -148,6 +150,19 @@ def test_threads(program):
     status, text = run([program, CALLS_OF_THREADS])
     expected = f"threads 8 calls {CALLS_OF_THREADS} objects {8 * rounds} steps {8 * rounds} releases {8 * rounds}\n"
     check(status == 0 and text.decode() == expected, f"{program.name}: status {status}, {text.decode()}")
+
+
+def test_engine(program):
+    """All is as on a zeroed device, and where the driver leaves something out that is found."""
+    status, text = run([program, "--frames", FRAMES])
+    told = {name.strip(): int(number) for name, number in re.findall(r"([a-z ]+) (\d+)", text.decode("utf-8", "replace"))}
+    check(status == 0 and told.get("frames") == FRAMES, f"{program.name}: status {status}, {text.decode('utf-8', 'replace')}")
+    for name in ("submits", "faults", "empty", "late", "clears", "barriers", "releases", "mapped ranges", "resources", "bytes"):
+        check(told.get(name), f"{program.name}: the frames have no {name}")
+    for forgotten in FORGOTTEN:
+        status, text = run([program, "--frames", FRAMES, "--forget", forgotten])
+        is_found = status == 1 and re.fullmatch(rb"frame \d+: object \d+ [^\n]* where a zeroed device has \d+\n", text)
+        check(is_found, f"{program.name} that forgets {forgotten}: status {status}, {text.decode('utf-8', 'replace')[:2000]}")
 
 
 def test_edges(program):
@@ -312,6 +327,8 @@ def test_programs(words):
         test_frame(build(folder, "frame", [EXAMPLES / "frame.c", EXAMPLES / "report.c"], linked))
         test_frame(build(folder, "frame-with-asan", [EXAMPLES / "frame.c", EXAMPLES / "report.c"], linked, *asan))
         test_threads(build(folder, "threads", [EXAMPLES / "threads.c"], linked, "-pthread"))
+        test_engine(build(folder, "engine", ENGINE, linked, *C11))
+        test_engine(build(folder, "engine-with-sanitizers", ENGINE, linked, *C11, *asan, "-fsanitize=undefined", "-fno-sanitize-recover"))
         test_edges(build(folder, "edges", [HERE / "edges.c"], linked))
         test_edges(build(folder, "edges-with-asan", [HERE / "edges.c"], linked, *asan))
         test_rules(folder)
