@@ -1,6 +1,6 @@
 pub mod Lists
 pub mod Naming
-pub mod Refusing
+pub mod Recorders
 pub mod Seating
 pub mod Sending
 pub mod Vacant

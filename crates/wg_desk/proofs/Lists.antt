@@ -1,5 +1,5 @@
 -- Lists of seats with one changed or added.
-use Rattle.std.proofs.Common.{◌≡◌, ◌⊎◌, inl, inr, ℕ, zero, suc, List, [], ◌∷◌, ◌++◌, length, Option, Some, None, slice_get, slice_set, refl, ap, sym, ◌∙◌}
+use Rattle.std.proofs.Common.{◌≡◌, ◌⊎◌, inl, inr, ℕ, zero, suc, List, [], ◌∷◌, ◌++◌, length, Option, Some, None, slice_get, slice_set, refl, ap, ◌∙◌}
 use Rattle.std.specs.Option.{option_map_or}
 use Rattle.std.proofs.lemmas.List.{length-set}
 use Rattle.wg_desk.specs.declared.seats.Seat.{Seat}
@@ -47,13 +47,3 @@ pub changed_same : (seats : List Seat) (n : ℕ) (change : Seat → Seat) → ((
 changed_same [] n change same = refl
 changed_same (seat ∷ seats) zero change same = ap (λ (s : Seat). s ∷ seats) (same seat refl)
 changed_same (seat ∷ seats) (suc n) change same = changed_step seat seats n change ∙ ap (λ (rest : List Seat). seat ∷ rest) (changed_same seats n change same)
-
--- two changes of a seat
-pub changed_twice : (seats : List Seat) (n : ℕ) (f g : Seat → Seat) → changed_at (changed_at seats n f) n g ≡ changed_at seats n (λ seat. g (f seat))
-changed_twice [] n f g = refl
-changed_twice (seat ∷ seats) zero f g = refl
-changed_twice (seat ∷ seats) (suc n) f g =
-    ap (λ (list : List Seat). changed_at list (suc n) g) (changed_step seat seats n f)
-    ∙ (changed_step seat (changed_at seats n f) n g
-    ∙ (ap (λ (rest : List Seat). seat ∷ rest) (changed_twice seats n f g)
-    ∙ sym (changed_step seat seats n (λ s. g (f s)))))

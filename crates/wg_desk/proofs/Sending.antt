@@ -4,7 +4,7 @@ use Rattle.std.specs.Prelude.{All, option_map, option_to_list}
 use Rattle.std.specs.Option.{option_map_or}
 use Rattle.std.specs.List.{flat_map, list_any}
 use Rattle.std.proofs.lemmas.Bool.{or_parts}
-use Rattle.std.proofs.lemmas.List.Elements.{All-weaker, All-nil, All-cons}
+use Rattle.std.proofs.lemmas.List.Elements.{All-weaker}
 use Rattle.wg_fading.specs.Fading.{was_let_go}
 use Rattle.wg_types.specs.Handles.{HandleValue}
 use Rattle.wg_types.specs.Refs.{all_wanted, some_wanted, maybe_wanted}
@@ -14,7 +14,6 @@ use Rattle.wg_types.specs.declared.bindings.ResourceOf.TheVariants.{Buffer, View
 use Rattle.wg_types.specs.declared.bindings.GroupEntryOf.{GroupEntryOf}
 use Rattle.wg_types.specs.Requests.{named}
 use Rattle.wg_types.specs.declared.handles.Info.{Info}
-use Rattle.wg_types.specs.declared.handles.Info.TheVariants as info
 use Rattle.wg_types.specs.declared.handles.ObjRef.{ObjRef}
 use Rattle.wg_types.specs.declared.render.TargetInfo.{TargetInfo}
 use Rattle.wg_trace.specs.declared.replies.Answer.TheVariants.{Made, Plain, BadCompletion}
@@ -38,7 +37,7 @@ use Rattle.wg_calls.specs.Calls.{reference_of, event_asked, info_asked, finish_e
 use Rattle.wg_calls.proofs.Genuine.{genuine_more, genuine_made, genuine_finish}
 use Rattle.wg_desk.specs.declared.seats.Seat.{Seat}
 use Rattle.wg_desk.specs.Seats.{emptied_at}
-use Rattle.wg_desk.specs.Sent.{dropped_number, left_after, ending_by, ending_asked, handed_over}
+use Rattle.wg_desk.specs.Sent.{dropped_number, left_after, handed_over}
 use Rattle.wg_desk.specs.Desks.{any_dropped, names_dropped, MakesGenuine, IsNumber}
 
 -- A call makes an object exactly where something is known of that.
@@ -101,30 +100,6 @@ finish_genuine setup history targets encoder recording = record {
 pub is_handed_over : (targets : Option TargetInfo) (encoder : ObjRef) (recording : RecordingValue) → handed_over (finish_event targets encoder recording) ≡ Some recording
 is_handed_over None encoder recording = refl
 is_handed_over (Some targets) encoder recording = refl
-
--- The call that ends an object names that alone.
-pub ending_named : (setup : Setup) (history : List Entry) (encoder : HandleValue) → is_genuine setup (reverse history) encoder ≡ true
-    → All (λ (used : HandleValue × Wanted). is_genuine setup (reverse history) used.0 ≡ true) (named (ending_asked encoder))
-ending_named setup history encoder genuine = by_info encoder.info
-  where
-    one : (asked : Wanted) → All (λ (used : HandleValue × Wanted). is_genuine setup (reverse history) used.0 ≡ true) ((encoder, asked) ∷ [])
-    one asked = All-cons (λ (used : HandleValue × Wanted). is_genuine setup (reverse history) used.0 ≡ true) (encoder, asked) [] genuine (All-nil (λ (used : HandleValue × Wanted). is_genuine setup (reverse history) used.0 ≡ true))
-
-    by_info : (known : Info) → All (λ (used : HandleValue × Wanted). is_genuine setup (reverse history) used.0 ≡ true) (named (ending_by encoder known))
-    by_info (info.BundleEncoder targets) = one _
-    by_info info.Encoder = one _
-    by_info (info.Buffer known) = one _
-    by_info (info.Texture known) = one _
-    by_info (info.View known) = one _
-    by_info (info.Sampler known) = one _
-    by_info (info.GroupLayout known) = one _
-    by_info (info.PipelineLayout known) = one _
-    by_info (info.Group known) = one _
-    by_info (info.Compute known) = one _
-    by_info (info.Render known) = one _
-    by_info (info.Queries known) = one _
-    by_info info.CommandBuffer = one _
-    by_info (info.Bundle known) = one _
 
 -- What a reply says that was made is the object of the next number.
 pub is_next : (setup : Setup) (past : Past) (event : Event) → IsNumber (reply_to setup past event).answer (count past)
@@ -216,25 +191,6 @@ pub finish_names : (setup : Setup) (past : Past) (targets : Option TargetInfo) (
 finish_names setup past None encoder recording undropped = ap (λ (b : Bool). b || false) undropped
 finish_names setup past (Some targets) encoder recording undropped = ap (λ (b : Bool). b || false) undropped
 
-pub ending_names : (setup : Setup) (past : Past) (encoder : HandleValue) → is_dropped setup past encoder.reference.number ≡ false → names_dropped setup past (named (ending_asked encoder)) ≡ false
-ending_names setup past encoder undropped = by_info encoder.info
-  where
-    by_info : (known : Info) → names_dropped setup past (named (ending_by encoder known)) ≡ false
-    by_info (info.BundleEncoder targets) = ap (λ (b : Bool). b || false) undropped
-    by_info info.Encoder = ap (λ (b : Bool). b || false) undropped
-    by_info (info.Buffer known) = ap (λ (b : Bool). b || false) undropped
-    by_info (info.Texture known) = ap (λ (b : Bool). b || false) undropped
-    by_info (info.View known) = ap (λ (b : Bool). b || false) undropped
-    by_info (info.Sampler known) = ap (λ (b : Bool). b || false) undropped
-    by_info (info.GroupLayout known) = ap (λ (b : Bool). b || false) undropped
-    by_info (info.PipelineLayout known) = ap (λ (b : Bool). b || false) undropped
-    by_info (info.Group known) = ap (λ (b : Bool). b || false) undropped
-    by_info (info.Compute known) = ap (λ (b : Bool). b || false) undropped
-    by_info (info.Render known) = ap (λ (b : Bool). b || false) undropped
-    by_info (info.Queries known) = ap (λ (b : Bool). b || false) undropped
-    by_info info.CommandBuffer = ap (λ (b : Bool). b || false) undropped
-    by_info (info.Bundle known) = ap (λ (b : Bool). b || false) undropped
-
 -- An end drops nothing.
 
 left_all : (event : Event) (seats : List Seat) → dropped_number event ≡ None → left_after event seats ≡ seats
@@ -246,25 +202,6 @@ finish_drops (Some targets) encoder recording = refl
 
 pub finish_leaves : (targets : Option TargetInfo) (encoder : ObjRef) (recording : RecordingValue) (event : Event) (seats : List Seat) → event ≡ finish_event targets encoder recording → left_after event seats ≡ seats
 finish_leaves targets encoder recording event seats is = left_all event seats (ap (λ (e : Event). dropped_number e) is ∙ finish_drops targets encoder recording)
-
-ending_drops : (encoder : HandleValue) (known : Info) → dropped_number (event_asked (ending_by encoder known)) ≡ None
-ending_drops encoder (info.BundleEncoder targets) = refl
-ending_drops encoder info.Encoder = refl
-ending_drops encoder (info.Buffer known) = refl
-ending_drops encoder (info.Texture known) = refl
-ending_drops encoder (info.View known) = refl
-ending_drops encoder (info.Sampler known) = refl
-ending_drops encoder (info.GroupLayout known) = refl
-ending_drops encoder (info.PipelineLayout known) = refl
-ending_drops encoder (info.Group known) = refl
-ending_drops encoder (info.Compute known) = refl
-ending_drops encoder (info.Render known) = refl
-ending_drops encoder (info.Queries known) = refl
-ending_drops encoder info.CommandBuffer = refl
-ending_drops encoder (info.Bundle known) = refl
-
-pub ending_leaves : (encoder : HandleValue) (seats : List Seat) → left_after (event_asked (ending_asked encoder)) seats ≡ seats
-ending_leaves encoder seats = left_all (event_asked (ending_asked encoder)) seats (ending_drops encoder encoder.info)
 
 -- What was let go was dropped.
 pub not_gone : (setup : Setup) (past : Past) (gone : List ℕ) (n : ℕ) → AreDead setup past gone → is_dropped setup past n ≡ false → was_let_go gone n ≡ false

@@ -1,14 +1,12 @@
 -- Seats of which some were let go, in which nothing was kept.
-use Rattle.std.proofs.Common.{◌≡◌, ◌⊎◌, inl, inr, ℕ, zero, suc, ◌≤◌, Bool, true, false, not, List, [], ◌∷◌, ◌++◌, length, Option, Some, None, is_some, slice_get, slice_set, nat_lt, refl, ap, sym, subst, ◌∙◌, arith, true≢false}
+use Rattle.std.proofs.Common.{◌≡◌, ◌⊎◌, inl, inr, ℕ, zero, suc, ◌≤◌, true, false, not, List, [], ◌∷◌, ◌++◌, length, Option, Some, None, slice_get, slice_set, nat_lt, refl, ap, sym, subst, ◌∙◌, arith, true≢false}
 use Rattle.std.specs.Prelude.{option_and_then}
-use Rattle.std.specs.Option.{option_map_or}
 use Rattle.std.proofs.lemmas.Bool.{and_parts, and_cases, cases_lt, lt-ltb, not-true, not-false}
-use Rattle.std.proofs.lemmas.List.{set-set}
 use Rattle.std.proofs.lemmas.Option.{slice_get_within}
 use Rattle.wg_fading.specs.Fading.{FadingValue, was_let_go, is_kept}
 use Rattle.wg_fading.proofs.Keeping.{gone_cases}
 use Rattle.wg_desk.specs.declared.seats.Seat.{Seat}
-use Rattle.wg_desk.specs.Seats.{vacant, AreVacant, handle_at, recorder_at, changed_at}
+use Rattle.wg_desk.specs.Seats.{vacant, AreVacant, handle_at, changed_at}
 use Rattle.wg_desk.proofs.Lists.{get_same, set_cases, more_cases, changed_same}
 
 get_none : {X : Type 0} (xs : List X) (i : ℕ) → length xs ≤ i → slice_get xs i ≡ None
@@ -35,12 +33,6 @@ handle_unkept list n are not_kept = elim (unkept list n are not_kept) [
   | inr free ↦ ap (λ (o : Option Seat). option_and_then (λ (s : Seat). s.handle) o) free
 ]
 
-pub recorder_unkept : (list : FadingValue Seat) (n : ℕ) → AreVacant list.gone list.items → is_kept list n ≡ false → recorder_at list.items n ≡ None
-recorder_unkept list n are not_kept = elim (unkept list n are not_kept) [
-  | inl none ↦ ap (λ (o : Option Seat). option_and_then (λ (s : Seat). s.recorder) o) none
-  | inr free ↦ ap (λ (o : Option Seat). option_and_then (λ (s : Seat). s.recorder) o) free
-]
-
 -- a change that leaves a seat in which nothing is
 pub changed_unkept : (list : FadingValue Seat) (n : ℕ) (change : Seat → Seat) → AreVacant list.gone list.items → is_kept list n ≡ false → change vacant ≡ vacant → changed_at list.items n change ≡ list.items
 changed_unkept list n change are not_kept same = changed_same list.items n change (λ seat at. by_free seat at (unkept list n are not_kept))
@@ -48,25 +40,6 @@ changed_unkept list n change are not_kept same = changed_same list.items n chang
     by_free : (seat : Seat) → slice_get list.items n ≡ Some seat → IsFree list.items n → change seat ≡ seat
     by_free seat at (inl none) = absurd (cc (at, none))
     by_free seat at (inr free) = let is : vacant ≡ seat = cc (at, free) in subst (λ (s : Seat). change s ≡ s) is same
-
--- where there is a handle, something is kept
-pub kept_handle : (list : FadingValue Seat) (n : ℕ) → AreVacant list.gone list.items → is_some (handle_at list.items n) ≡ true → is_kept list n ≡ true
-kept_handle list n are some = by_kept (is_kept list n) refl
-  where
-    by_kept : (b : Bool) → is_kept list n ≡ b → b ≡ true
-    by_kept true is = refl
-    by_kept false is = absurd (true≢false (sym some ∙ ap is_some (handle_unkept list n are is)))
-
--- a seat that is taken out, changed and put in again
-pub changed_kept : (seats : List Seat) (n : ℕ) (seat other : Seat) (change : Seat → Seat) → slice_get seats n ≡ Some seat → slice_set (slice_set seats n other) n (change seat) ≡ changed_at seats n change
-changed_kept seats n seat other change at = set-set seats n other (change seat) ∙ sym (ap (λ (o : Option Seat). option_map_or (λ s. slice_set seats n (change s)) o seats) at)
-
--- the same by steps, and where it is put in as it was
-pub twice_items : (old mid new : FadingValue Seat) (n : ℕ) (seat other : Seat) (change : Seat → Seat) → slice_get old.items n ≡ Some seat → mid.items ≡ slice_set old.items n other → new.items ≡ slice_set mid.items n (change seat) → new.items ≡ changed_at old.items n change
-twice_items old mid new n seat other change at out in_again = in_again ∙ (ap (λ (list : List Seat). slice_set list n (change seat)) out ∙ changed_kept old.items n seat other change at)
-
-pub twice_same : (old mid new : FadingValue Seat) (n : ℕ) (seat other : Seat) → slice_get old.items n ≡ Some seat → mid.items ≡ slice_set old.items n other → new.items ≡ slice_set mid.items n seat → new.items ≡ old.items
-twice_same old mid new n seat other at out in_again = twice_items old mid new n seat other (λ s. s) at out in_again ∙ changed_same old.items n (λ s. s) (λ s _. refl)
 
 -- What was let go stays so, and no more is, as seats change.
 
@@ -85,13 +58,6 @@ vacant_set gone seats n seat are here = λ m out. by_cases m out (set_cases seat
     by_cases : (m : ℕ) → was_let_go gone m ≡ true → (slice_get (slice_set seats n seat) m ≡ slice_get seats m) ⊎ ((m ≡ n) × (slice_get (slice_set seats n seat) m ≡ Some seat)) → slice_get (slice_set seats n seat) m ≡ Some vacant
     by_cases m out (inl same) = same ∙ are m out
     by_cases m out (inr found) = absurd (true≢false (sym out ∙ (ap (λ (k : ℕ). was_let_go gone k) found.0 ∙ here)))
-
-pub vacant_twice : (old mid new : FadingValue Seat) (n : ℕ) (a b : Seat) → AreVacant old.gone old.items → is_kept old n ≡ true → mid.items ≡ slice_set old.items n a → mid.gone ≡ old.gone → new.items ≡ slice_set mid.items n b → new.gone ≡ mid.gone → AreVacant new.gone new.items
-vacant_twice old mid new n a b are kept out out_gone in_again in_gone = λ m gone.
-    let here : was_let_go old.gone n ≡ false = kept_here old n kept in
-    let items : new.items ≡ slice_set (slice_set old.items n a) n b = in_again ∙ ap (λ (list : List Seat). slice_set list n b) out in
-    let was : was_let_go old.gone m ≡ true = ap (λ (list : List ℕ). was_let_go list m) (sym (in_gone ∙ out_gone)) ∙ gone in
-    ap (λ (list : List Seat). slice_get list m) items ∙ vacant_set old.gone (slice_set old.items n a) n b (vacant_set old.gone old.items n a are here) here m was
 
 pub vacant_left : (old mid new : FadingValue Seat) (n : ℕ) (seat : Seat) → AreVacant old.gone old.items → is_kept old n ≡ true → slice_get old.items n ≡ Some seat → mid.items ≡ slice_set old.items n vacant → mid.gone ≡ old.gone → new.items ≡ mid.items → new.gone ≡ mid.gone ++ n ∷ []
     → AreVacant new.gone new.items

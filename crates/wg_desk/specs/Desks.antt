@@ -1,5 +1,5 @@
 -- What contracts see of a desk, and what its calls do.
-use Rattle.std.specs.Prelude.{◌≡◌, ℕ, Bool, true, false, List, [], ◌∷◌, ◌++◌, reverse, Option, Some, is_some, option_and_then}
+use Rattle.std.specs.Prelude.{◌≡◌, ℕ, not, Bool, true, false, ◌||◌, ◌==◌, List, [], ◌∷◌, ◌++◌, reverse, Option, Some, None, is_none, is_some, option_and_then, if◌then◌else◌}
 use Rattle.std.specs.List.{list_any}
 use Rattle.wg_types.specs.Handles.{HandleValue}
 use Rattle.wg_types.specs.declared.handles.Info.{Info}
@@ -9,6 +9,7 @@ use Rattle.wg_trace.specs.declared.replies.Answer.{Answer}
 use Rattle.wg_trace.specs.declared.replies.Answer.TheVariants.{Made}
 use Rattle.wg_trace.specs.declared.replies.Reply.{Reply}
 use Rattle.wg_orders.specs.Trace.{Item}
+use Rattle.wg_encoder.specs.Recorders.{RecorderValue}
 use Rattle.wg_history.specs.declared.events.Setup.{Setup}
 use Rattle.wg_history.specs.declared.events.Event.{Event}
 use Rattle.wg_history.specs.Entries.{Entry, Past}
@@ -18,9 +19,11 @@ use Rattle.wg_history.specs.Answers.{Run, reply_to}
 use Rattle.wg_history.specs.Traces.{Trace}
 use Rattle.wg_core.specs.Cores.{FindsUnset}
 use Rattle.wg_calls.specs.Calls.{handle_of}
+use Rattle.wg_calls.specs.Judged.{IsRecorderOf}
 use Rattle.wg_desk.specs.declared.desk.DeskError.{DeskError}
 use Rattle.wg_desk.specs.declared.desk.DeskError.TheVariants.{NoMemory, NoObject, NoPass}
 use Rattle.wg_desk.specs.declared.seats.Seat.{Seat}
+use Rattle.wg_desk.specs.Seats.{handle_at}
 
 -- what the device was opened with, its history, which is a run, and what is kept of its objects, by their numbers
 pub record DeskValue : Type 0 where
@@ -59,7 +62,21 @@ pub record IsUnchanged (old new : DeskValue) : Type 0 where
   pub history : new.history ≡ old.history
   pub seats : new.seats ≡ old.seats
 
--- Why a call was not made, where it is told whether a number that it names has no handle, and whether a pass that it names was not
+-- The encoder of a recorder, if it has a handle here: it is of this device, and was not dropped.
+abbrev pub encoder_on : DeskValue → RecorderValue → Option ObjRef
+encoder_on desk recorder = option_and_then (λ (encoder : ObjRef). if not (encoder.device == desk.setup.serial) || is_none (handle_at desk.seats encoder.number) then None else Some encoder) recorder.encoder
+
+-- whether the encoder of a recorder has no handle here: it is of another device, or was dropped
+abbrev pub lacks : DeskValue → RecorderValue → Bool
+lacks desk recorder = is_none (encoder_on desk recorder)
+
+-- A recorder is new, and that of the object of this number: it is of the device, was opened for that object, and was never taken from.
+pub record IsNewRecorder (setup : Setup) (n : ℕ) (recorder : RecorderValue) : Type 0 where
+  pub own : IsRecorderOf setup recorder
+  pub opened : recorder.encoder ≡ Some (record { device = setup.serial; number = n })
+  pub open_still : recorder.takes ≡ 0
+
+-- Why a call was not made, where it is told whether an object that it names has no handle, and whether a pass that it names was not
 -- begun. Want of memory is the one free reason.
 abbrev pub IsDue : DeskError → Bool → Bool → Type 0
 IsDue NoMemory missing unbegun = (missing ≡ false) × (unbegun ≡ false)

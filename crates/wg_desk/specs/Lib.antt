@@ -1,4 +1,3 @@
 pub mod Seats
-pub mod Coming
 pub mod Sent
 pub mod Desks

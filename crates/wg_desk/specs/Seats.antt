@@ -1,24 +1,18 @@
 -- What is kept of objects, by their numbers.
-use Rattle.std.specs.Prelude.{◌≡◌, ℕ, not, Bool, true, false, List, length, reverse, slice_get, slice_set, Option, Some, None, IfSome, is_none, unwrap_or, option_map, option_and_then}
+use Rattle.std.specs.Prelude.{◌≡◌, ℕ, Bool, true, false, List, length, reverse, slice_get, slice_set, Option, Some, None, IfSome, is_none, unwrap_or, option_map, option_and_then}
 use Rattle.std.specs.List.{list_any}
 use Rattle.std.specs.Option.{option_map_or}
 use Rattle.wg_fading.specs.Fading.{was_let_go}
 use Rattle.wg_types.specs.Handles.{HandleValue}
-use Rattle.wg_types.specs.Commands.{Command}
 use Rattle.wg_types.specs.declared.handles.Info.{Info}
 use Rattle.wg_types.specs.declared.handles.Info.TheVariants as info
-use Rattle.wg_types.specs.declared.limits.Limits.{Limits}
-use Rattle.wg_types.specs.declared.commands.On.{On}
 use Rattle.wg_trace.specs.declared.replies.Answer.{Answer}
 use Rattle.wg_types.specs.declared.wanted.Wanted.{Wanted}
-use Rattle.wg_encoder.specs.Recorders.{RecorderValue, is_late, recorded}
 use Rattle.wg_history.specs.declared.events.Setup.{Setup}
 use Rattle.wg_history.specs.Entries.{Entry}
 use Rattle.wg_history.specs.Objects.{count}
 use Rattle.wg_history.specs.Rules.{is_dropped, is_genuine}
 use Rattle.wg_calls.specs.Calls.{handle_of}
-use Rattle.wg_calls.specs.Encoders.{recorder_of, is_begun}
-use Rattle.wg_calls.specs.Judged.{IsRecorderOf}
 use Rattle.wg_desk.specs.declared.seats.Seat.{Seat}
 
 -- what contracts see of all seats: each by its number, and for how many more there is room
@@ -28,7 +22,7 @@ pub record SeatsValue : Type 0 where
 
 -- a seat in which nothing is kept
 abbrev pub vacant : Seat
-vacant = record { handle = None; recorder = None }
+vacant = record { handle = None }
 
 -- Nothing was kept in the seats that were let go.
 abbrev pub AreVacant : List ℕ → List Seat → Type 0
@@ -37,10 +31,6 @@ AreVacant gone seats = (n : ℕ) → was_let_go gone n ≡ true → slice_get se
 -- the handle at a number, until its object is dropped
 abbrev pub handle_at : List Seat → ℕ → Option HandleValue
 handle_at seats n = option_and_then (λ seat. seat.handle) (slice_get seats n)
-
--- the recorder at a number, while its encoder is open
-abbrev pub recorder_at : List Seat → ℕ → Option RecorderValue
-recorder_at seats n = option_and_then (λ seat. seat.recorder) (slice_get seats n)
 
 -- Stands for no object. A call that names a number without a handle is not made, so that it is not met.
 abbrev pub no_object : HandleValue
@@ -58,45 +48,9 @@ is_missing seats used = is_none (handle_at seats used.0)
 abbrev pub any_missing : List Seat → List (ℕ × Wanted) → Bool
 any_missing seats useds = list_any (is_missing seats) useds
 
--- how many passes were begun on the encoder of a number, while it is open
-abbrev pub passes_at : List Seat → ℕ → ℕ
-passes_at seats n = option_map_or (λ recorder. recorder.passes) (recorder_at seats n) 0
-
--- whether a command stands on a pass that was not begun on the encoder of a number, which is open
-abbrev pub is_unbegun : List Seat → ℕ → On → Bool
-is_unbegun seats n on = option_map_or (λ recorder. not (is_begun on recorder.passes)) (recorder_at seats n) false
-
--- A command is late where its encoder is not open, or its pass has ended.
-abbrev pub is_late_at : List Seat → ℕ → On → Bool
-is_late_at seats n on = option_map_or (λ recorder. is_late recorder on) (recorder_at seats n) true
-
 -- the seats with a change of the one of a number
 abbrev pub changed_at : List Seat → ℕ → (Seat → Seat) → List Seat
 changed_at seats n change = option_map_or (λ seat. slice_set seats n (change seat)) (slice_get seats n) seats
-
--- a seat with a command on its recorder
-abbrev pub recorded_in : On → Command → Seat → Seat
-recorded_in on command seat = record { handle = seat.handle; recorder = option_map (λ recorder. recorded recorder on command) seat.recorder }
-
--- the seats after a command on the recorder of a number
-abbrev pub recorded_at : List Seat → ℕ → On → Command → List Seat
-recorded_at seats n on command = changed_at seats n (recorded_in on command)
-
--- a seat with its recorder taken out
-abbrev pub closed : Seat → Seat
-closed seat = record { handle = seat.handle; recorder = None }
-
--- the seats without the recorder of a number
-abbrev pub closed_at : List Seat → ℕ → List Seat
-closed_at seats n = changed_at seats n closed
-
--- a seat with a recorder put in
-abbrev pub reopened : RecorderValue → Seat → Seat
-reopened recorder seat = record { handle = seat.handle; recorder = Some recorder }
-
--- the seats with this recorder at a number
-abbrev pub reopened_at : List Seat → ℕ → RecorderValue → List Seat
-reopened_at seats n recorder = changed_at seats n (reopened recorder)
 
 -- a seat with nothing kept there
 abbrev pub emptied : Seat → Seat
@@ -106,22 +60,19 @@ emptied seat = vacant
 abbrev pub emptied_at : List Seat → ℕ → List Seat
 emptied_at seats n = changed_at seats n emptied
 
--- what is kept of an object that a device with these limits made
-abbrev pub seat_of : Limits → HandleValue → Seat
-seat_of limits handle = record { handle = Some handle; recorder = recorder_of limits handle.reference handle.info }
+-- what is kept of an object that was made
+abbrev pub seat_of : HandleValue → Seat
+seat_of handle = record { handle = Some handle }
 
 -- what is kept of what an answer of a device made, of which so much is known
 abbrev pub seat_made : Setup → Option Info → Answer → Option Seat
-seat_made setup known answer = option_map (seat_of setup.limits) (option_and_then (λ known. handle_of setup.serial known answer) known)
+seat_made setup known answer = option_map seat_of (option_and_then (λ known. handle_of setup.serial known answer) known)
 
--- What is kept at number n after a history: a handle that is genuine and of object n, which was not dropped, if one, and a recorder
--- that was not taken from, if one. That is of the device, so that its end is judged by the limits of the device.
+-- What is kept at number n after a history: a handle that is genuine and of object n, which was not dropped, if one.
 pub record IsSeated (setup : Setup) (history : List Entry) (n : ℕ) (seat : Seat) : Type 0 where
   pub genuine : IfSome seat.handle (λ handle. is_genuine setup (reverse history) handle ≡ true)
   pub number : IfSome seat.handle (λ handle. handle.reference.number ≡ n)
   pub undropped : IfSome seat.handle (λ _. is_dropped setup (reverse history) n ≡ false)
-  pub open_still : IfSome seat.recorder (λ recorder. recorder.takes ≡ 0)
-  pub own : IfSome seat.recorder (λ recorder. IsRecorderOf setup recorder)
 
 -- There is a seat for each object that was made, and each handle is genuine and of the object of its number, which was not dropped.
 pub record AreSeated (setup : Setup) (history : List Entry) (seats : List Seat) : Type 0 where

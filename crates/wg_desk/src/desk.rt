@@ -1,25 +1,26 @@
 //! The desk: its calls.
-ghost use Rattle.std.specs.Prelude.{◌≡◌, ◌++◌, [], ◌||◌, true, false, All, length, reverse, Some, None, IfOk, IfErr, IfSome, OnOk, OnErr, is_some, is_none, option_to_list};
+ghost use Rattle.std.specs.Prelude.{◌≡◌, ◌++◌, ◌<◌, [], ◌||◌, not, true, false, All, length, reverse, Some, IfOk, IfErr, IfSome, IsSomeAnd, OnOk, OnErr, is_none, option_to_list};
 ghost use Rattle.wg_desk.specs.declared.desk.DeskError.TheVariants.{NoObject};
 ghost use Rattle.wg_types.specs.Requests.{named, map_refs};
 ghost use Rattle.wg_types.specs.Commands.{named as command_named, map_refs as map_command};
+ghost use Rattle.wg_encoder.specs.Recorders.{noted, is_late, recorded, has_taken, most_takes};
 ghost use Rattle.wg_history.specs.declared.events.Event.TheVariants.{Late};
 ghost use Rattle.wg_history.specs.Answers.{Run};
 ghost use Rattle.wg_history.specs.Rules.{is_dropped, is_genuine};
 ghost use Rattle.wg_state.specs.Gone.{named_by};
-ghost use Rattle.wg_calls.specs.Calls.{event_asked, info_asked, finish_event, finished_info, finish_of, known_of_finish};
-ghost use Rattle.wg_calls.specs.Judged.{IsRecorderOf};
-ghost use Rattle.wg_desk.specs.Seats.{handle_at, found_at, passes_at, any_missing, is_unbegun, is_late_at, recorded_at, reopened_at, seat_made, AreSeated};
-ghost use Rattle.wg_desk.specs.Sent.{ending_asked, ending_at, event_sent, left_after, seats_ended, seats_left, seats_after};
-ghost use Rattle.wg_desk.specs.Desks.{any_dropped, names_dropped, MakesGenuine, HasSent, HandsOutGrowth, FindsUnsetOn, IsUnchanged, IsDue, IsNumber};
+ghost use Rattle.wg_calls.specs.Calls.{event_asked, info_asked, finish_event, finished_info, finish_of, known_of_finish, taken_out};
+ghost use Rattle.wg_calls.specs.Encoders.{is_begun};
+ghost use Rattle.wg_desk.specs.Seats.{handle_at, found_at, any_missing, seat_made, AreSeated};
+ghost use Rattle.wg_desk.specs.Sent.{event_sent, left_after, seats_after, recorder_made, recorder_asked};
+ghost use Rattle.wg_desk.specs.Desks.{any_dropped, names_dropped, encoder_on, lacks, MakesGenuine, HasSent, HandsOutGrowth, FindsUnsetOn, IsNewRecorder, IsUnchanged, IsDue, IsNumber};
 
 use crate::asked::{command_over, dropped_number, is_missing_in, is_missing_on, request_over};
-use crate::endings::{ending_asked, recording_in};
-use crate::making::{prepare, seat_from};
+use crate::endings::recording_in;
+use crate::making::{keep, recorder_coming, seat_from};
 use crate::seats::Seats;
 use std::alloc::Global;
 use std::marker::Model;
-use wg_calls::{ended_by, event_asked, finish_event, finished_info, info_asked};
+use wg_calls::{event_asked, finish_event, finished_info, info_asked, is_begun};
 use wg_core::{Event, FadingCore, Refused, Spent};
 use wg_encoder::{Noted, Recorder, Recording};
 use wg_entry::NoMemory;
@@ -35,9 +36,9 @@ use wg_types::steps::Item;
 pub enum DeskError {
     /// There was no memory.
     NoMemory,
-    /// A number was never given, or its object was dropped.
+    /// A number was never given, or its object was dropped, or an encoder is of another device.
     NoObject,
-    /// A pass was never begun on an encoder that is open.
+    /// A pass was never begun on its encoder.
     NoPass,
 }
 
@@ -52,10 +53,10 @@ impl From<NoMemory> for DeskError {
     }
 }
 
-/// A device with the handles of its objects by number, and the recorders of its encoders. Numbers count up
-/// from 0, and none is given twice. What calls give back of recordings and of objects that nobody can reach any
-/// more waits until it is dropped. Contracts see what the device was opened with, its history, which is a run,
-/// and what is kept at each number.
+/// A device with the handles of its objects by number. Numbers count up from 0, and none is given twice. The
+/// recorders of its encoders are with their callers, who record while the desk is only read. What calls give back of
+/// recordings and of objects that nobody can reach any more waits until it is dropped. Contracts see what the device
+/// was opened with, its history, which is a run, and what is kept at each number.
 #[derive(Drop)]
 pub struct Desk {
     core: FadingCore,
@@ -110,8 +111,7 @@ impl Desk {
     }
 
     /// What holds of a desk at all times: its history is a run, there is a place for each object that was
-    /// made, each handle is genuine and of the object of its number, which was not dropped, and each recorder is
-    /// of the device, by whose number and limits its end is judged.
+    /// made, and each handle is genuine and of the object of its number, which was not dropped.
     pub fn holds(&self)
         ensures run { Run self.now.setup self.now.history }
         ensures seated { AreSeated self.now.setup self.now.history self.now.seats }
@@ -124,14 +124,6 @@ impl Desk {
         ensures { result ≡ length self.now.history }
     {
         self.core.len()
-    }
-
-    /// How many passes were begun on an encoder that is open, which is the number of the next one. Of all
-    /// else there are none.
-    pub fn passes(&self, encoder: u64) -> u32
-        ensures { result ≡ passes_at self.now.seats encoder }
-    {
-        self.seats.passes_at(encoder)
     }
 
     /// The first bytes of a buffer's range, from `lo` up to but not including `hi`, that are unset in the trace, as
@@ -176,42 +168,51 @@ impl Desk {
         if self.seats.reserve().is_err() {
             return Err(Refused { call: event });
         }
-        let reference = ObjRef {
-            device: self.serial,
-            number: self.seats.len(),
-        };
-        let Ok(coming) = prepare(self.alloc, reference, info, &self.limits) else {
+        let Ok(kept) = keep(self.alloc, info) else {
             return Err(Refused { call: event });
         };
         let dropped = dropped_number(&event);
         self.core.dead_holds();
         let reply = self.core.step(who, event, items, &mut self.spent)?;
-        let made = seat_from(self.serial, coming, reply.answer);
+        let made = seat_from(self.serial, kept, reply.answer);
         self.seats.add(made);
         self.seats.empty(dropped);
         Ok(reply)
     }
 
-    /// Sends the event that a call over handles is.
+    /// The recorder of what a call is about to make, of which so much is known, if that is an encoder.
+    fn recorder_of(&self, info: &Option<Info>) -> Result<Option<Recorder>, NoMemory>
+        ensures { IfOk result (λ recorder. recorder ≡ recorder_made self.now.setup (length self.now.seats) info.now) }
+    {
+        let reference = ObjRef {
+            device: self.serial,
+            number: self.seats.len(),
+        };
+        recorder_coming(self.alloc, reference, info, &self.limits)
+    }
+
+    /// Sends the event that a call over handles is. All that the recorder of what it makes needs is taken before.
     fn call(
         &mut self,
         who: u32,
         request: &RequestOf<Handle>,
         items: &mut Vec<Item>,
-    ) -> Result<Reply, NoMemory>
+    ) -> Result<(Reply, Option<Recorder>), NoMemory>
         requires genuine { All (λ used. is_genuine self.old.setup (reverse self.old.history) used.0 ≡ true) (named request.now) }
         requires undropped { names_dropped self.old.setup (reverse self.old.history) (named request.now) ≡ false }
         ensures setup { self.new.setup ≡ self.old.setup }
-        ensures done { IfOk result (λ reply. HasSent self.old self.new who (event_asked request.now) reply) }
+        ensures done { IfOk result (λ made. HasSent self.old self.new who (event_asked request.now) made.0) }
         ensures items { OnOk result (HandsOutGrowth self.old self.new items.old.items items.new.items) }
-        ensures seats { IfOk result (λ reply. self.new.seats ≡ left_after (event_asked request.now) (self.old.seats ++ option_to_list (seat_made self.old.setup (info_asked request.now) reply.answer))) }
+        ensures seats { IfOk result (λ made. self.new.seats ≡ left_after (event_asked request.now) (self.old.seats ++ option_to_list (seat_made self.old.setup (info_asked request.now) made.0.answer))) }
+        ensures recorder { IfOk result (λ made. made.1 ≡ recorder_made self.old.setup (length self.old.seats) (info_asked request.now)) }
         ensures unchanged { OnErr result (IsUnchanged self.old self.new) }
         ensures no_items { OnErr result (items.new.items ≡ items.old.items) }
     {
         let info = info_asked(self.alloc, request)?;
+        let recorder = self.recorder_of(&info)?;
         let event = event_asked(self.alloc, request)?;
         match self.send(who, event, info, items) {
-            Ok(reply) => Ok(reply),
+            Ok(reply) => Ok((reply, recorder)),
             Err(_) => Err(NoMemory),
         }
     }
@@ -222,50 +223,131 @@ impl Desk {
         who: u32,
         request: RequestOf<Handle>,
         items: &mut Vec<Item>,
-    ) -> Result<Reply, NoMemory>
+    ) -> Result<(Reply, Option<Recorder>), NoMemory>
         requires genuine { All (λ used. is_genuine self.old.setup (reverse self.old.history) used.0 ≡ true) (named request) }
         requires undropped { names_dropped self.old.setup (reverse self.old.history) (named request) ≡ false }
         ensures setup { self.new.setup ≡ self.old.setup }
-        ensures done { IfOk result (λ reply. HasSent self.old self.new who (event_asked request) reply) }
+        ensures done { IfOk result (λ made. HasSent self.old self.new who (event_asked request) made.0) }
         ensures items { OnOk result (HandsOutGrowth self.old self.new items.old.items items.new.items) }
-        ensures seats { IfOk result (λ reply. self.new.seats ≡ left_after (event_asked request) (self.old.seats ++ option_to_list (seat_made self.old.setup (info_asked request) reply.answer))) }
+        ensures seats { IfOk result (λ made. self.new.seats ≡ left_after (event_asked request) (self.old.seats ++ option_to_list (seat_made self.old.setup (info_asked request) made.0.answer))) }
+        ensures recorder { IfOk result (λ made. made.1 ≡ recorder_made self.old.setup (length self.old.seats) (info_asked request)) }
         ensures unchanged { OnErr result (IsUnchanged self.old self.new) }
         ensures no_items { OnErr result (items.new.items ≡ items.old.items) }
     {
         self.call(who, &request, items)
     }
 
-    /// Sends the event that a call over numbers is, which ends no encoder.
+    /// Sends the event that a call over numbers is.
     fn call_over(
         &mut self,
         who: u32,
         request: &RequestOf<u64>,
         items: &mut Vec<Item>,
-    ) -> Result<Reply, NoMemory>
+    ) -> Result<(Reply, Option<Recorder>), NoMemory>
         requires { any_missing self.old.seats (named request.now) ≡ false }
         ensures setup { self.new.setup ≡ self.old.setup }
-        ensures done { IfOk result (λ reply. HasSent self.old self.new who (event_asked (map_refs (found_at self.old.seats) request.now)) reply) }
+        ensures done { IfOk result (λ made. HasSent self.old self.new who (event_sent self.old.seats request.now) made.0) }
         ensures items { OnOk result (HandsOutGrowth self.old self.new items.old.items items.new.items) }
-        ensures seats { IfOk result (λ reply. self.new.seats ≡ seats_left self.old.setup self.old.seats request.now reply.answer) }
+        ensures seats { IfOk result (λ made. self.new.seats ≡ seats_after self.old.setup self.old.seats request.now made.0.answer) }
+        ensures recorder { IfOk result (λ made. made.1 ≡ recorder_asked self.old.setup self.old.seats request.now) }
         ensures unchanged { OnErr result (IsUnchanged self.old self.new) }
         ensures no_items { OnErr result (items.new.items ≡ items.old.items) }
     {
         let asked = request_over(self.alloc, &self.seats, request)?;
-        let reply = self.call_of(who, asked, items)?;
-        Ok(reply)
+        let made = self.call_of(who, asked, items)?;
+        Ok(made)
     }
 
-    /// Sends that a command came late.
-    fn late(&mut self, who: u32, encoder: ObjRef, items: &mut Vec<Item>) -> Result<Reply, NoMemory>
+    /// Makes a call of the device, whose objects go by number, but for those that record: the event is that of
+    /// the call over the handles at its numbers. A finish or a finishBundle that comes here hands over no commands:
+    /// `finish` is for those of a recorder. What is made has the number that the reply says, and comes with its
+    /// recorder where it is an encoder. What is dropped has no number from then on.
+    pub fn ask(
+        &mut self,
+        who: u32,
+        request: &RequestOf<u64>,
+        items: &mut Vec<Item>,
+    ) -> Result<(Reply, Option<Recorder>), DeskError>
         ensures setup { self.new.setup ≡ self.old.setup }
-        ensures done { IfOk result (λ reply. HasSent self.old self.new who (Late encoder) reply) }
+        ensures done { IfOk result (λ made. HasSent self.old self.new who (event_sent self.old.seats request.now) made.0) }
+        ensures number { IfOk result (λ made. IsNumber made.0.answer (length self.old.seats)) }
         ensures items { OnOk result (HandsOutGrowth self.old self.new items.old.items items.new.items) }
-        ensures seats { self.new.seats ≡ self.old.seats }
-        ensures history { OnErr result (self.new.history ≡ self.old.history) }
+        ensures seats { IfOk result (λ made. self.new.seats ≡ seats_after self.old.setup self.old.seats request.now made.0.answer) }
+        ensures recorder { IfOk result (λ made. made.1 ≡ recorder_asked self.old.setup self.old.seats request.now) }
+        ensures fresh { IfOk result (λ made. IfSome made.1 (λ recorder. IsNewRecorder self.old.setup (length self.old.seats) recorder)) }
+        ensures found { OnOk result (any_missing self.old.seats (named request.now) ≡ false) }
+        ensures due { IfErr result (λ error. IsDue error (any_missing self.old.seats (named request.now)) false) }
+        ensures unchanged { OnErr result (IsUnchanged self.old self.new) }
         ensures no_items { OnErr result (items.new.items ≡ items.old.items) }
     {
-        self.send(who, Event::Late { encoder }, None, items)
-            .map_err(|_| NoMemory)
+        if is_missing_in(&self.seats, request) {
+            return Err(DeskError::NoObject);
+        }
+        Ok(self.call_over(who, request, items)?)
+    }
+
+    /// The encoder of a recorder, if it has a handle here. It was not dropped.
+    fn encoder_on(&self, recorder: &Recorder) -> Option<ObjRef>
+        ensures encoder { result ≡ encoder_on self.now recorder.now }
+        ensures undropped { IfSome result (λ encoder. is_dropped self.now.setup (reverse self.now.history) encoder.number ≡ false) }
+    {
+        let encoder = recorder.encoder()?;
+        if encoder.device != self.serial || self.seats.handle_at(encoder.number).is_none() {
+            return None;
+        }
+        Some(encoder)
+    }
+
+    /// Records a command on a recorder of the desk, or on a pass of it: the command is kept, or it came late, after
+    /// the end of the encoder or of the pass, of which `late` tells the device. The desk is only read, so that
+    /// many may record at once, each on a recorder of its own. Where the encoder was dropped, or is of another
+    /// device, there is no such object.
+    #[tactic(auto, using(wg_calls::proofs::Begun::not_beyond))]
+    pub fn record(
+        &self,
+        recorder: &mut Recorder,
+        on: On,
+        command: &CommandOf<u64>,
+    ) -> Result<Noted, DeskError>
+        ensures noted { IfOk result (λ answer. answer ≡ noted (is_late recorder.old on)) }
+        ensures after { OnOk result (recorder.new ≡ recorded recorder.old on (map_command (found_at self.now.seats) command.now)) }
+        ensures found { OnOk result ((lacks self.now recorder.old || any_missing self.now.seats (command_named command.now)) ≡ false) }
+        ensures begun { OnOk result (is_begun on recorder.old.passes ≡ true) }
+        ensures due { IfErr result (λ error. IsDue error (lacks self.now recorder.old || any_missing self.now.seats (command_named command.now)) (not (is_begun on recorder.old.passes))) }
+        ensures unchanged { OnErr result (recorder.new ≡ recorder.old) }
+    {
+        if self.encoder_on(recorder).is_none() || is_missing_on(&self.seats, command) {
+            return Err(DeskError::NoObject);
+        }
+        if !is_begun(on, recorder.passes()) {
+            return Err(DeskError::NoPass);
+        }
+        let command = command_over(self.alloc, &self.seats, command)?;
+        Ok(recorder.record(on, command)?)
+    }
+
+    /// Tells the device that a command came late on a recorder of it.
+    pub fn late(
+        &mut self,
+        who: u32,
+        recorder: &Recorder,
+        items: &mut Vec<Item>,
+    ) -> Result<Reply, DeskError>
+        ensures setup { self.new.setup ≡ self.old.setup }
+        ensures done { IfOk result (λ reply. IsSomeAnd (encoder_on self.old recorder.now) (λ encoder. HasSent self.old self.new who (Late encoder) reply)) }
+        ensures items { OnOk result (HandsOutGrowth self.old self.new items.old.items items.new.items) }
+        ensures seats { self.new.seats ≡ self.old.seats }
+        ensures due { IfErr result (λ error. IsDue error (lacks self.old recorder.now) false) }
+        ensures unchanged { OnErr result (IsUnchanged self.old self.new) }
+        ensures no_items { OnErr result (items.new.items ≡ items.old.items) }
+    {
+        let Some(encoder) = self.encoder_on(recorder) else {
+            return Err(DeskError::NoObject);
+        };
+        match self.send(who, Event::Late { encoder }, None, items) {
+            Ok(reply) => Ok(reply),
+            Err(_) => Err(DeskError::NoMemory),
+        }
     }
 
     /// Sends the end of an encoder with what its recorder has kept, which comes back where there is no
@@ -282,6 +364,7 @@ impl Desk {
         ensures done { IfOk result (λ reply. HasSent self.old self.new who (finish_event recording.targets encoder recording) reply) }
         ensures items { OnOk result (HandsOutGrowth self.old self.new items.old.items items.new.items) }
         ensures seats { IfOk result (λ reply. self.new.seats ≡ self.old.seats ++ option_to_list (seat_made self.old.setup (Some (finished_info recording.targets recording)) reply.answer)) }
+        ensures number { IfOk result (λ reply. IsNumber reply.answer (length self.old.seats)) }
         ensures back { IfErr result (λ back. back ≡ recording) }
         ensures unchanged { OnErr result (IsUnchanged self.old self.new) }
         ensures no_items { OnErr result (items.new.items ≡ items.old.items) }
@@ -295,171 +378,39 @@ impl Desk {
         }
     }
 
-    /// Ends an encoder whose recorder was taken out. Without memory that is put in again.
-    fn end_open(
+    /// Ends the encoder of a recorder (WebGPU, "finish" of an encoder or of a bundle encoder): what it has kept
+    /// moves into the event. A recorder that was ended before hands over nothing, and the device answers. Without
+    /// memory it is as before, but for how often it was taken where that is at the end of its count. Where the
+    /// encoder was dropped, or is of another device, there is no such object.
+    pub fn finish(
         &mut self,
         who: u32,
-        number: u64,
-        encoder: ObjRef,
-        mut recorder: Recorder,
+        recorder: &mut Recorder,
         items: &mut Vec<Item>,
-    ) -> Result<Reply, NoMemory>
-        requires open { recorder.takes ≡ 0 }
-        requires own { IsRecorderOf self.old.setup recorder }
-        requires undropped { is_dropped self.old.setup (reverse self.old.history) encoder.number ≡ false }
-        requires seated { is_some (handle_at self.old.seats number) ≡ true }
+    ) -> Result<Reply, DeskError>
         ensures setup { self.new.setup ≡ self.old.setup }
-        ensures done { IfOk result (λ reply. HasSent self.old self.new who (finish_of encoder recorder) reply) }
+        ensures done { IfOk result (λ reply. IsSomeAnd (encoder_on self.old recorder.old) (λ encoder. HasSent self.old self.new who (finish_of encoder recorder.old) reply)) }
+        ensures number { IfOk result (λ reply. IsNumber reply.answer (length self.old.seats)) }
         ensures items { OnOk result (HandsOutGrowth self.old self.new items.old.items items.new.items) }
-        ensures seats { IfOk result (λ reply. self.new.seats ≡ self.old.seats ++ option_to_list (seat_made self.old.setup (Some (known_of_finish recorder)) reply.answer)) }
-        ensures history { OnErr result (self.new.history ≡ self.old.history) }
-        ensures reopened { OnErr result (self.new.seats ≡ reopened_at self.old.seats number recorder) }
+        ensures seats { IfOk result (λ reply. self.new.seats ≡ self.old.seats ++ option_to_list (seat_made self.old.setup (Some (known_of_finish recorder.old)) reply.answer)) }
+        ensures taken { OnOk result (recorder.new ≡ taken_out recorder.old) }
+        ensures due { IfErr result (λ error. IsDue error (lacks self.old recorder.old) false) }
+        ensures unchanged { OnErr result (IsUnchanged self.old self.new) }
+        ensures as_before { OnErr result (record recorder.new { takes = recorder.old.takes } ≡ recorder.old) }
+        ensures ended { OnErr result (has_taken recorder.new ≡ has_taken recorder.old) }
+        ensures back { OnErr result (recorder.old.takes < most_takes → recorder.new ≡ recorder.old) }
         ensures no_items { OnErr result (items.new.items ≡ items.old.items) }
     {
+        let Some(encoder) = self.encoder_on(recorder) else {
+            return Err(DeskError::NoObject);
+        };
         let recording = recorder.take();
         match self.hand_over(who, encoder, recording, items) {
             Ok(reply) => Ok(reply),
             Err(recording) => {
                 recorder.put_back(recording);
-                self.seats.reopen_at(number, recorder);
-                Err(NoMemory)
+                Err(DeskError::NoMemory)
             }
-        }
-    }
-
-    /// Ends what is no encoder that is open, so that it hands over nothing.
-    fn end_closed(
-        &mut self,
-        who: u32,
-        encoder: Handle,
-        items: &mut Vec<Item>,
-    ) -> Result<Reply, NoMemory>
-        requires genuine { is_genuine self.old.setup (reverse self.old.history) encoder ≡ true }
-        requires undropped { is_dropped self.old.setup (reverse self.old.history) encoder.reference.number ≡ false }
-        ensures setup { self.new.setup ≡ self.old.setup }
-        ensures done { IfOk result (λ reply. HasSent self.old self.new who (event_asked (ending_asked encoder)) reply) }
-        ensures items { OnOk result (HandsOutGrowth self.old self.new items.old.items items.new.items) }
-        ensures seats { IfOk result (λ reply. self.new.seats ≡ self.old.seats ++ option_to_list (seat_made self.old.setup (info_asked (ending_asked encoder)) reply.answer)) }
-        ensures unchanged { OnErr result (IsUnchanged self.old self.new) }
-        ensures no_items { OnErr result (items.new.items ≡ items.old.items) }
-    {
-        let reply = self.call_of(who, ending_asked(encoder), items)?;
-        Ok(reply)
-    }
-
-    /// Ends the encoder of a number.
-    fn end(&mut self, who: u32, number: u64, items: &mut Vec<Item>) -> Result<Reply, NoMemory>
-        requires { is_some (handle_at self.old.seats number) ≡ true }
-        ensures setup { self.new.setup ≡ self.old.setup }
-        ensures done { IfOk result (λ reply. HasSent self.old self.new who (ending_at self.old.seats number) reply) }
-        ensures items { OnOk result (HandsOutGrowth self.old self.new items.old.items items.new.items) }
-        ensures seats { IfOk result (λ reply. self.new.seats ≡ seats_ended self.old.setup self.old.seats number reply.answer) }
-        ensures unchanged { OnErr result (IsUnchanged self.old self.new) }
-        ensures no_items { OnErr result (items.new.items ≡ items.old.items) }
-    {
-        let Some(handle) = self.seats.handle_at(number) else {
-            unreachable!();
-        };
-        let handle = handle.share()?;
-        match self.seats.close_at(number) {
-            Some(recorder) => self.end_open(who, number, handle.reference(), recorder, items),
-            None => self.end_closed(who, handle, items),
-        }
-    }
-
-    /// Ends the encoder of a number (WebGPU, "finish" of an encoder or of a bundle encoder): what its recorder
-    /// has kept moves into the event. What is no encoder that is open hands over nothing, and the device
-    /// answers.
-    pub fn finish(
-        &mut self,
-        who: u32,
-        encoder: u64,
-        items: &mut Vec<Item>,
-    ) -> Result<Reply, DeskError>
-        ensures setup { self.new.setup ≡ self.old.setup }
-        ensures done { IfOk result (λ reply. HasSent self.old self.new who (ending_at self.old.seats encoder) reply) }
-        ensures number { IfOk result (λ reply. IsNumber reply.answer (length self.old.seats)) }
-        ensures items { OnOk result (HandsOutGrowth self.old self.new items.old.items items.new.items) }
-        ensures seats { IfOk result (λ reply. self.new.seats ≡ seats_ended self.old.setup self.old.seats encoder reply.answer) }
-        ensures found { OnOk result (is_none (handle_at self.old.seats encoder) ≡ false) }
-        ensures due { IfErr result (λ error. IsDue error (is_none (handle_at self.old.seats encoder)) false) }
-        ensures unchanged { OnErr result (IsUnchanged self.old self.new) }
-        ensures no_items { OnErr result (items.new.items ≡ items.old.items) }
-    {
-        if self.seats.handle_at(encoder).is_none() {
-            return Err(DeskError::NoObject);
-        }
-        Ok(self.end(who, encoder, items)?)
-    }
-
-    /// Makes a call of the device, whose objects go by number, but for those that record: the event is that of
-    /// the call over the handles at its numbers. A finish and a finishBundle are as `finish` has them. What is
-    /// made has the number that the reply says. What is dropped has none from then on.
-    pub fn ask(
-        &mut self,
-        who: u32,
-        request: &RequestOf<u64>,
-        items: &mut Vec<Item>,
-    ) -> Result<Reply, DeskError>
-        ensures setup { self.new.setup ≡ self.old.setup }
-        ensures done { IfOk result (λ reply. HasSent self.old self.new who (event_sent self.old.seats request.now) reply) }
-        ensures number { IfOk result (λ reply. IsNumber reply.answer (length self.old.seats)) }
-        ensures items { OnOk result (HandsOutGrowth self.old self.new items.old.items items.new.items) }
-        ensures seats { IfOk result (λ reply. self.new.seats ≡ seats_after self.old.setup self.old.seats request.now reply.answer) }
-        ensures found { OnOk result (any_missing self.old.seats (named request.now) ≡ false) }
-        ensures due { IfErr result (λ error. IsDue error (any_missing self.old.seats (named request.now)) false) }
-        ensures unchanged { OnErr result (IsUnchanged self.old self.new) }
-        ensures no_items { OnErr result (items.new.items ≡ items.old.items) }
-    {
-        if is_missing_in(&self.seats, request) {
-            return Err(DeskError::NoObject);
-        }
-        match ended_by(request) {
-            Some(encoder) => Ok(self.end(who, encoder, items)?),
-            None => Ok(self.call_over(who, request, items)?),
-        }
-    }
-
-    /// Records a command on an encoder, or on a pass of it. It is kept, which no reply says, or it is late,
-    /// and that is an event, whose reply is given: late is what comes after the end of the encoder or of the
-    /// pass, or is recorded on what is no encoder. A late command changes nothing else.
-    pub fn record(
-        &mut self,
-        who: u32,
-        encoder: u64,
-        on: On,
-        command: &CommandOf<u64>,
-        items: &mut Vec<Item>,
-    ) -> Result<Option<Reply>, DeskError>
-        ensures setup { self.new.setup ≡ self.old.setup }
-        ensures late { IfOk result (λ told. is_some told ≡ is_late_at self.old.seats encoder on) }
-        ensures sent { IfOk result (λ told. IfSome told (λ reply. HasSent self.old self.new who (Late (found_at self.old.seats encoder).reference) reply)) }
-        ensures items { IfOk result (λ told. IfSome told (λ _. HandsOutGrowth self.old self.new items.old.items items.new.items)) }
-        ensures as_before { IfOk result (λ told. IfSome told (λ _. self.new.seats ≡ self.old.seats)) }
-        ensures kept { IfOk result (λ told. told ≡ None → (self.new.history ≡ self.old.history)
-            × (self.new.seats ≡ recorded_at self.old.seats encoder on (map_command (found_at self.old.seats) command.now))
-            × (items.new.items ≡ items.old.items)) }
-        ensures found { OnOk result ((is_none (handle_at self.old.seats encoder) || any_missing self.old.seats (command_named command.now)) ≡ false) }
-        ensures begun { OnOk result (is_unbegun self.old.seats encoder on ≡ false) }
-        ensures due { IfErr result (λ error. IsDue error (is_none (handle_at self.old.seats encoder) || any_missing self.old.seats (command_named command.now)) (is_unbegun self.old.seats encoder on)) }
-        ensures unchanged { OnErr result (IsUnchanged self.old self.new) }
-        ensures no_items { OnErr result (items.new.items ≡ items.old.items) }
-    {
-        let seats = &self.seats;
-        let Some(handle) = seats.handle_at(encoder) else {
-            return Err(DeskError::NoObject);
-        };
-        let reference = handle.reference();
-        if is_missing_on(seats, command) {
-            return Err(DeskError::NoObject);
-        }
-        if seats.is_unbegun(encoder, on) {
-            return Err(DeskError::NoPass);
-        }
-        let command = command_over(self.alloc, seats, command)?;
-        match self.seats.record_at(encoder, on, command)? {
-            Noted::Kept => Ok(None),
-            Noted::Late => Ok(Some(self.late(who, reference, items)?)),
         }
     }
 }

@@ -1,6 +1,9 @@
 //! What a call will make, prepared before the event is sent.
-ghost use Rattle.std.specs.Prelude.{◌≡◌, IfOk, option_map};
-ghost use Rattle.wg_desk.specs.Coming.{known_of, expected, seat_from};
+ghost use Rattle.std.specs.Prelude.{◌≡◌, IfOk, option_map, option_and_then};
+ghost use Rattle.std.specs.Arc.{arc_value};
+ghost use Rattle.wg_calls.specs.Calls.{handle_of};
+ghost use Rattle.wg_calls.specs.Encoders.{recorder_of};
+ghost use Rattle.wg_desk.specs.Seats.{seat_of};
 
 use crate::seats::Seat;
 use std::alloc::Global;
@@ -12,42 +15,42 @@ use wg_types::handles::{Info, ObjRef};
 use wg_types::limits::Limits;
 use wg_types::replies::Answer;
 
-/// What is kept of an object that a call will make, but for its handle: what is known of it, and its
-/// recorder, where it is an encoder.
-#[derive(Drop)]
-pub struct Coming {
-    info: Arc<Info>,
-    recorder: Option<Recorder>,
+/// What handles will share of an object, if something is known of one.
+pub fn keep(alloc: Global, info: Option<Info>) -> Result<Option<Arc<Info>>, NoMemory>
+    ensures { IfOk result (λ kept. option_map arc_value kept ≡ info) }
+{
+    match info {
+        Some(info) => Ok(Some(Arc::new(alloc, info)?)),
+        None => Ok(None),
+    }
 }
 
-/// What will be kept of an object of a device with these limits, of which so much is known, if a call makes one.
-pub fn prepare(
+/// The recorder of the object that a device with these limits will make, of which so much is known, if that will
+/// be an encoder.
+pub fn recorder_coming(
     alloc: Global,
     reference: ObjRef,
-    info: Option<Info>,
+    info: &Option<Info>,
     limits: &Limits,
-) -> Result<Option<Coming>, NoMemory>
-    ensures { IfOk result (λ coming. expected coming ≡ option_map (known_of limits.now reference) info) }
+) -> Result<Option<Recorder>, NoMemory>
+    ensures { IfOk result (λ recorder. recorder ≡ option_and_then (λ known. recorder_of limits.now reference known) info.now) }
 {
-    let Some(info) = info else {
-        return Ok(None);
-    };
-    let recorder = recorder_of(alloc, reference, &info, limits)?;
-    let info = Arc::new(alloc, info)?;
-    Ok(Some(Coming { info, recorder }))
+    match info {
+        Some(info) => recorder_of(alloc, reference, info, limits),
+        None => Ok(None),
+    }
 }
 
-/// The seat of what an answer made. It takes no memory.
-pub fn seat_from(serial: u64, coming: Option<Coming>, answer: Answer) -> Option<Seat>
-    ensures { result ≡ seat_from serial (expected coming) answer }
+/// The seat of what an answer made, where so much of it was kept. It takes no memory.
+pub fn seat_from(serial: u64, kept: Option<Arc<Info>>, answer: Answer) -> Option<Seat>
+    ensures { result ≡ option_map seat_of (option_and_then (λ known. handle_of serial known answer) (option_map arc_value kept)) }
 {
-    let Some(Coming { info, recorder }) = coming else {
+    let Some(info) = kept else {
         return None;
     };
     match handle_of(serial, info, answer) {
         Some(handle) => Some(Seat {
             handle: Some(handle),
-            recorder,
         }),
         None => None,
     }

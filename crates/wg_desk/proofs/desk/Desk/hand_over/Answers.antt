@@ -1,11 +1,12 @@
-use Rattle.std.proofs.Common.{◌≡◌, ap, reverse, ◌∙◌, ◌++◌, Option, Some, option_to_list, unwrap_or}
+use Rattle.std.proofs.Common.{◌≡◌, ap, subst, reverse, ◌∙◌, ◌++◌, Option, Some, option_to_list, unwrap_or}
 use Rattle.wg_types.specs.declared.handles.Info.{Info}
 use Rattle.wg_encoder.specs.Recorders.{RecordingValue}
 use Rattle.wg_history.specs.declared.events.Event.{Event}
 use Rattle.wg_state.specs.Gone.{named_by}
-use Rattle.wg_desk.specs.Seats.{seat_made}
+use Rattle.wg_desk.specs.Seats.{seat_made, AreSeated}
 use Rattle.wg_desk.specs.Sent.{handed_over}
-use Rattle.wg_desk.specs.Desks.{any_dropped}
+use Rattle.wg_desk.specs.Desks.{DeskValue, any_dropped}
+use Rattle.wg_desk.proofs.Seating.{next_number}
 use Rattle.wg_desk.proofs.Sending.{finished_so, finish_names, finish_leaves, hands_over, is_handed_over}
 use Rattle.wg_desk.proofs.desk.Desk.hand_over.Goals as goal
 
@@ -25,6 +26,12 @@ returns-in-Ok-send-clause-seats c =
     c.in-Ok-send.ensures.seats
     ∙ (finish_leaves c.args.recording.targets c.args.encoder c.args.recording c.finish_event.result _ c.finish_event.ensures
     ∙ ap (λ (info : Info). c.args.self.now.seats ++ option_to_list (seat_made c.args.self.now.setup (Some info) c.in-Ok-send.reply.answer)) c.in-Ok.ensures)
+
+pub returns-in-Ok-send-clause-number : goal.returns-in-Ok-send-clause-number
+returns-in-Ok-send-clause-number c =
+    let seated : AreSeated c.args.self.now.setup c.args.self.now.history c.args.self.now.seats
+    = subst (λ (v : DeskValue). AreSeated v.setup v.history v.seats) c.self.view_is c.self.invariant.seated in
+    next_number c.args.self.now.setup c.args.self.now.history c.args.self.now.seats c.finish_event.result c.in-Ok-send.reply seated c.in-Ok-send.ensures.done.replied
 
 pub returns-in-Err-clause-back : goal.returns-in-Err-clause-back
 returns-in-Err-clause-back c =

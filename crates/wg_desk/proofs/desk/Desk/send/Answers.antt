@@ -1,14 +1,15 @@
-use Rattle.std.proofs.Common.{◌≡◌, ◌++◌, ℕ, false, List, length, reverse, Option, ap, sym, subst, ◌∙◌}
-use Rattle.std.specs.Prelude.{option_to_list}
+use Rattle.std.proofs.Common.{◌≡◌, ◌++◌, ℕ, false, List, reverse, Option, ap, ap₂, sym, subst, ◌∙◌}
+use Rattle.std.specs.Prelude.{option_map, option_and_then, option_to_list}
 use Rattle.std.specs.Option.{option_map_or}
+use Rattle.wg_types.specs.declared.handles.Info.{Info}
 use Rattle.wg_history.specs.declared.events.Setup.{Setup}
 use Rattle.wg_state.specs.Gone.{named_by}
+use Rattle.wg_calls.specs.Calls.{handle_of}
 use Rattle.wg_desk.specs.declared.seats.Seat.{Seat}
-use Rattle.wg_desk.specs.Coming.{expected}
-use Rattle.wg_desk.specs.Seats.{emptied_at, seat_made, AreSeated}
+use Rattle.wg_desk.specs.Seats.{emptied_at, seat_of, seat_made, AreSeated}
 use Rattle.wg_desk.specs.Sent.{left_after}
 use Rattle.wg_desk.specs.Desks.{DeskValue, any_dropped, MakesGenuine}
-use Rattle.wg_desk.proofs.Seating.{made_is, send_seated}
+use Rattle.wg_desk.proofs.Seating.{send_seated}
 use Rattle.wg_desk.proofs.Sending.{none_gone}
 use Rattle.wg_desk.proofs.desk.Desk.send.Goals as goal
 
@@ -22,14 +23,12 @@ step-requires c =
 -- What the event made is seated, and the seat of what it dropped is empty.
 grown : (c : goal.After-empty) → c.empty.new.self.items ≡ left_after c.args.event (c.self.inside.seats.items ++ option_to_list (seat_made c.self.inside.core.setup c.args.info c.in_ok-reply.reply.answer))
 grown c =
-    let last : c.len.result ≡ length c.self.inside.seats.items = c.len.ensures ∙ ap (λ (list : List Seat). length list) c.reserve.ensures.items in
+    let made : c.seat_from-made.result ≡ seat_made c.self.inside.core.setup c.args.info c.in_ok-reply.reply.answer
+    = c.seat_from-made.ensures
+    ∙ ap₂ (λ (serial : ℕ) (known : Option Info). option_map seat_of (option_and_then (λ (known : Info). handle_of serial known c.in_ok-reply.reply.answer) known)) c.self.invariant.serial_is c.in-Ok.ensures in
     let more : c.add.new.self.items ≡ c.self.inside.seats.items ++ option_to_list (seat_made c.self.inside.core.setup c.args.info c.in_ok-reply.reply.answer)
     = c.add.ensures
-    ∙ (ap (λ (list : List Seat). list ++ option_to_list c.seat_from-made.result) c.reserve.ensures.items
-    ∙ ap (λ (made : Option Seat). c.self.inside.seats.items ++ option_to_list made)
-    (c.seat_from-made.ensures
-    ∙ made_is c.self.inside.core.setup c.self.inside.core.history c.self.inside.seats.items c.self.inside.serial c.self.inside.limits c.len.result c.args.event c.in_ok-reply.reply c.args.info (expected c.in-Ok.coming)
-    c.self.invariant.serial_is c.self.invariant.limits_is last c.self.invariant.seated c.in_ok-reply.ensures.reply c.in-Ok.ensures)) in
+    ∙ ap₂ (λ (list : List Seat) (made : Option Seat). list ++ option_to_list made) c.reserve.ensures.items made in
     c.empty.ensures
     ∙ (ap (λ (list : List Seat). option_map_or (emptied_at list) c.dropped_number-dropped.result list) more
     ∙ ap (λ (o : Option ℕ). option_map_or (emptied_at (c.self.inside.seats.items ++ option_to_list (seat_made c.self.inside.core.setup c.args.info c.in_ok-reply.reply.answer))) o
