@@ -8,6 +8,10 @@
  * copies it otherwise. What lies behind it belongs to it, until wethlorn_close. Each call tests whether it
  * is open, and answers WETHLORN_CLOSED where it is not.
  *
+ * Encoder. A wethlorn_encoder is one pointer too, {0} before the call that makes it, and what was recorded on it lies
+ * behind it until wethlorn_close_encoder. Its object has a number as all have. It may go to other threads, and is used
+ * by one call at a time.
+ *
  * Objects. An object goes by its number, which the reply to the call that makes it gives. Numbers of a
  * device count up from 0, and none is given twice. They are no pointers: a number that was never given, or
  * that was let go by wethlorn_drop, is answered by WETHLORN_NO_OBJECT, and one that stands for another kind
@@ -30,9 +34,11 @@
  * `const` pointers point to stays the caller's: it is read during the call and not kept. What `out` points to
  * is the caller's too, and may not overlap anything else that the call is given.
  *
- * Threads. Any thread may call, one at a time for each device, with the calls ordered by the caller's own
- * lock, or by a thread's start or join. Two devices have nothing in common. No call waits, and none may be
- * made from a signal handler or a forked child.
+ * Threads. Any thread may call. Calls that take the device as `const` only read it: they record, and many may be made
+ * at once, each on an encoder of its own, while no other call of the device is. All other calls of a device are made
+ * one at a time. The caller's own lock sees to that, which is held shared by the first and alone by the others, or a
+ * thread's start or join. Two devices have nothing in common. No call waits, and none may be made from a signal handler
+ * or a forked child.
  *
  * One lock spans a call, the drain of what comes of it, and the doing of its items, be it that they are put
  * into the driver's own queue in that order. A lock that is let go in between orders the calls alone: another
@@ -77,6 +83,11 @@ typedef struct wethlorn_device {
     void *inside;
 } wethlorn_device;
 
+/* An encoder: null before it is made and after wethlorn_close_encoder. */
+typedef struct wethlorn_encoder {
+    void *inside;
+} wethlorn_encoder;
+
 /* What is left out: a number, a size (which is then what remains) or an object. */
 #define WETHLORN_NONE UINT64_MAX
 /* What 1 is in the numbers of a viewport. */
@@ -89,12 +100,13 @@ enum {
     WETHLORN_OK = 0,
     WETHLORN_NO_MEMORY = 1, /* no memory on the host: nothing has changed, and the call may be made again */
     WETHLORN_NO_OBJECT = 2, /* a number that was never given, or was let go by a drop: nothing was sent */
-    WETHLORN_CLOSED = 3,    /* the device is not open */
+    WETHLORN_CLOSED = 3,    /* the device, or the encoder, is not open */
     WETHLORN_BAD_VALUE = 4, /* a value out of its range: nothing was sent */
-    WETHLORN_NO_PASS = 5,   /* no pass with this number was begun on the encoder, which is open */
+    WETHLORN_NO_PASS = 5,   /* no pass with this number was begun on the encoder */
     WETHLORN_END = 6,       /* of a drain: all was told */
-    WETHLORN_IS_OPEN = 7,   /* of wethlorn_open: the device is open already */
-    WETHLORN_NO_ROOM = 8    /* of wethlorn_next_items: no room for the next item; `out` has what it takes */
+    WETHLORN_IS_OPEN = 7,   /* of a call that opens a device or an encoder: that is open already */
+    WETHLORN_NO_ROOM = 8,   /* of wethlorn_next_items: no room for the next item; `out` has what it takes */
+    WETHLORN_LATE = 9       /* of a command: it came after the end of the encoder or of the pass, and was not kept */
 };
 
 /* What a reply says. */
@@ -609,6 +621,7 @@ typedef struct wethlorn_texture_write {
 /* ---- Descriptors in which nothing is named, as values that they begin with ---- */
 
 #define WETHLORN_DEVICE_INIT {0}
+#define WETHLORN_ENCODER_INIT {0}
 #define WETHLORN_LIMIT_INIT {0, 0}
 #define WETHLORN_EXTENT_INIT {0, 1, 1}
 #define WETHLORN_ORIGIN_INIT {0, 0, 0}
@@ -739,20 +752,32 @@ uint32_t wethlorn_get_bind_group_layout(wethlorn_device *device, uint64_t pipeli
  * lock. */
 uint32_t wethlorn_create_query_set(wethlorn_device *device, uint32_t count, wethlorn_reply *out);
 
-/* Makes an encoder (createCommandEncoder). Status: OK, NO_MEMORY, CLOSED. Owner: the device keeps what it
- * makes; the arguments stay the caller's. Thread: any, one at a time, under the caller's lock. */
-uint32_t wethlorn_create_encoder(wethlorn_device *device, wethlorn_reply *out);
+/* Makes an encoder (createCommandEncoder), which the reply gives as an object, and opens `encoder` for it. Status: OK,
+ * NO_MEMORY, CLOSED, IS_OPEN. Owner: the caller has the encoder, and closes it. Thread: any, one at a time, under the
+ * caller's lock. */
+uint32_t wethlorn_create_encoder(wethlorn_device *device, wethlorn_encoder *encoder, wethlorn_reply *out);
 
-/* Makes a bundle encoder (createRenderBundleEncoder). `colors` are formats, of which each may be 0.
- * Status: OK, NO_MEMORY, CLOSED, BAD_VALUE. Owner: the device keeps what it makes; the arguments stay the
- * caller's. Thread: any, one at a time, under the caller's lock. */
+/* Makes a bundle encoder (createRenderBundleEncoder), as wethlorn_create_encoder an encoder. `colors` are formats, of
+ * which each may be 0. Status: OK, NO_MEMORY, CLOSED, BAD_VALUE, IS_OPEN. Owner: the caller has the encoder, and closes
+ * it. Thread: any, one at a time, under the caller's lock. */
 uint32_t wethlorn_create_bundle_encoder(wethlorn_device *device, const wethlorn_bundle_desc *desc,
-    const uint32_t *colors, size_t colors_count, wethlorn_reply *out);
+    const uint32_t *colors, size_t colors_count, wethlorn_encoder *encoder, wethlorn_reply *out);
 
 /* Ends an encoder, and makes a command buffer of what was recorded on it (finish); or ends a bundle
- * encoder, and makes a bundle. Status: OK, NO_MEMORY, NO_OBJECT, CLOSED. Owner: the device keeps what it
- * makes; the arguments stay the caller's. Thread: any, one at a time, under the caller's lock. */
-uint32_t wethlorn_finish(wethlorn_device *device, uint64_t encoder, wethlorn_reply *out);
+ * encoder, and makes a bundle. The encoder stays open: what is recorded on it from then on comes late. NO_OBJECT: its
+ * number was let go, or it is of another device. Status: OK, NO_MEMORY, NO_OBJECT, CLOSED. Owner: the device keeps what
+ * it makes; the arguments stay the caller's. Thread: any, one at a time, under the caller's lock. */
+uint32_t wethlorn_finish(wethlorn_device *device, wethlorn_encoder *encoder, wethlorn_reply *out);
+
+/* Tells the device that a command came late on an encoder, once for each that had the status LATE. That is an event,
+ * with the reply WETHLORN_PLAIN and the fault of rule 14. NO_OBJECT: as of wethlorn_finish. Status: OK, NO_MEMORY,
+ * NO_OBJECT, CLOSED. Owner: the arguments stay the caller's. Thread: any, one at a time, under the caller's lock. */
+uint32_t wethlorn_late(wethlorn_device *device, wethlorn_encoder *encoder, wethlorn_reply *out);
+
+/* Closes an encoder, and frees what it has kept. The device does not know of it: wethlorn_drop lets go of its number.
+ * Either may come first, and the device may be closed before. Status: OK, CLOSED. Owner: the pointer is null afterwards.
+ * Thread: any, one at a time for each encoder, with no lock of the device. */
+uint32_t wethlorn_close_encoder(wethlorn_encoder *encoder);
 
 /* ---- The queue, maps, and what becomes of objects ---- */
 
@@ -819,175 +844,176 @@ uint32_t wethlorn_pop_error_scope(wethlorn_device *device, wethlorn_reply *out);
  * caller's lock. */
 uint32_t wethlorn_lose(wethlorn_device *device, wethlorn_reply *out);
 
-/* ---- Commands. They are recorded on an encoder or a bundle encoder. `pass` is the number of a pass that was
- * begun on the encoder, or WETHLORN_ON_ENCODER. Passes of an encoder are numbered from 0 in the order of their
- * begins; of an encoder that has ended any number will do. The reply is WETHLORN_KEPT, and nothing is asked of
- * the device. Where the encoder or the pass has ended, or `encoder` is an object of another kind, it is the
- * reply to the event that says so: WETHLORN_PLAIN with the fault of rule 14. ---- */
+/* ---- Commands. They are recorded on an encoder or a bundle encoder, and the device is only read: so the caller's
+ * lock of the device is held shared, and many threads may record at once, each on an encoder of its own. `pass` is the
+ * number of a pass that was begun on the encoder, or WETHLORN_ON_ENCODER. Passes of an encoder are numbered from 0 in
+ * the order of their begins, late ones too. Nothing is asked of the device: there is no word on validity till the
+ * finish. Where the encoder or the pass has ended the status is WETHLORN_LATE, and the device does not know of it till
+ * wethlorn_late tells it. NO_OBJECT: a number that the command names stands for nothing, or that of the encoder was let
+ * go, or the encoder is of another device. ---- */
 
-/* Begins a compute pass (beginComputePass); `out->pass` is its number. Status: OK, NO_MEMORY, NO_OBJECT,
- * CLOSED. Owner: the device keeps what it makes; the arguments stay the caller's. Thread: any, one at a
- * time, under the caller's lock. */
-uint32_t wethlorn_begin_compute_pass(wethlorn_device *device, uint64_t encoder, wethlorn_reply *out);
+/* Begins a compute pass (beginComputePass); `out` is told its number, of one that comes late too. Status: OK, LATE,
+ * NO_MEMORY, NO_OBJECT, CLOSED. Owner: the arguments stay the caller's. Thread: any, one at a time for each
+ * encoder, under the caller's lock, shared. */
+uint32_t wethlorn_begin_compute_pass(const wethlorn_device *device, wethlorn_encoder *encoder, uint32_t *out);
 
-/* Begins a render pass (beginRenderPass); `out->pass` is its number. `colors` stand by slot. `queries` is
- * the query set of its occlusion queries, or WETHLORN_NONE. `max_draws` is how often it may draw, with the draws of
- * the bundles that it executes (maxDrawCount), or WETHLORN_NONE, which asks nothing: a page that does not say it has
- * 50,000,000. Status: OK, NO_MEMORY, NO_OBJECT, CLOSED, BAD_VALUE. Owner: the device keeps what it makes; the
- * arguments stay the caller's. Thread: any, one at a time, under the caller's lock. */
-uint32_t wethlorn_begin_render_pass(wethlorn_device *device, uint64_t encoder, const wethlorn_color *colors,
-    size_t colors_count, const wethlorn_depth *depth, uint64_t queries, uint64_t max_draws, wethlorn_reply *out);
+/* Begins a render pass (beginRenderPass); `out` is told its number, of one that comes late too. `colors` stand by
+ * slot. `queries` is the query set of its occlusion queries, or WETHLORN_NONE. `max_draws` is how often it may
+ * draw, with the draws of the bundles that it executes (maxDrawCount), or WETHLORN_NONE, which asks nothing: a page
+ * that does not say it has 50,000,000. Status: OK, LATE, NO_MEMORY, NO_OBJECT, CLOSED, BAD_VALUE. Owner: the
+ * arguments stay the caller's. Thread: any, one at a time for each encoder, under the caller's lock, shared. */
+uint32_t wethlorn_begin_render_pass(const wethlorn_device *device, wethlorn_encoder *encoder, const wethlorn_color
+    *colors, size_t colors_count, const wethlorn_depth *depth, uint64_t queries, uint64_t max_draws, uint32_t *out);
 
-/* Ends a pass (end). Status: OK, NO_MEMORY, NO_OBJECT, CLOSED, NO_PASS. Owner: the arguments stay the
- * caller's. Thread: any, one at a time, under the caller's lock. */
-uint32_t wethlorn_end(wethlorn_device *device, uint64_t encoder, uint32_t pass, wethlorn_reply *out);
+/* Ends a pass (end). Status: OK, LATE, NO_MEMORY, NO_OBJECT, CLOSED, NO_PASS. Owner: the arguments stay the
+ * caller's. Thread: any, one at a time for each encoder, under the caller's lock, shared. */
+uint32_t wethlorn_end(const wethlorn_device *device, wethlorn_encoder *encoder, uint32_t pass);
 
-/* Opens a debug group of an encoder, a pass or a bundle encoder (pushDebugGroup). Status: OK, NO_MEMORY,
- * NO_OBJECT, CLOSED, NO_PASS. Owner: the arguments stay the caller's. Thread: any, one at a time, under
- * the caller's lock. */
-uint32_t wethlorn_push_debug_group(wethlorn_device *device, uint64_t encoder, uint32_t pass,
-    wethlorn_reply *out);
+/* Opens a debug group of an encoder, a pass or a bundle encoder (pushDebugGroup). Status: OK, LATE, NO_MEMORY,
+ * NO_OBJECT, CLOSED, NO_PASS. Owner: the arguments stay the caller's. Thread: any, one at a time for each encoder,
+ * under the caller's lock, shared. */
+uint32_t wethlorn_push_debug_group(const wethlorn_device *device, wethlorn_encoder *encoder, uint32_t pass);
 
-/* Closes the debug group that was opened last (popDebugGroup). Status: OK, NO_MEMORY, NO_OBJECT, CLOSED,
- * NO_PASS. Owner: the arguments stay the caller's. Thread: any, one at a time, under the caller's lock. */
-uint32_t wethlorn_pop_debug_group(wethlorn_device *device, uint64_t encoder, uint32_t pass,
-    wethlorn_reply *out);
+/* Closes the debug group that was opened last (popDebugGroup). Status: OK, LATE, NO_MEMORY, NO_OBJECT, CLOSED,
+ * NO_PASS. Owner: the arguments stay the caller's. Thread: any, one at a time for each encoder, under the caller's
+ * lock, shared. */
+uint32_t wethlorn_pop_debug_group(const wethlorn_device *device, wethlorn_encoder *encoder, uint32_t pass);
 
-/* Marks a place of an encoder, a pass or a bundle encoder (insertDebugMarker). Status: OK, NO_MEMORY, NO_OBJECT,
- * CLOSED, NO_PASS. Owner: the arguments stay the caller's. Thread: any, one at a time, under the caller's lock. */
-uint32_t wethlorn_insert_debug_marker(wethlorn_device *device, uint64_t encoder, uint32_t pass,
-    wethlorn_reply *out);
+/* Marks a place of an encoder, a pass or a bundle encoder (insertDebugMarker). Status: OK, LATE, NO_MEMORY,
+ * NO_OBJECT, CLOSED, NO_PASS. Owner: the arguments stay the caller's. Thread: any, one at a time for each encoder,
+ * under the caller's lock, shared. */
+uint32_t wethlorn_insert_debug_marker(const wethlorn_device *device, wethlorn_encoder *encoder, uint32_t pass);
 
-/* Records a copy of bytes (copyBufferToBuffer). Status: OK, NO_MEMORY, NO_OBJECT, CLOSED. Owner: the
- * arguments stay the caller's. Thread: any, one at a time, under the caller's lock. */
-uint32_t wethlorn_copy_buffer_to_buffer(wethlorn_device *device, uint64_t encoder,
-    const wethlorn_buffer_copy *copy, wethlorn_reply *out);
+/* Records a copy of bytes (copyBufferToBuffer). Status: OK, LATE, NO_MEMORY, NO_OBJECT, CLOSED. Owner: the
+ * arguments stay the caller's. Thread: any, one at a time for each encoder, under the caller's lock, shared. */
+uint32_t wethlorn_copy_buffer_to_buffer(const wethlorn_device *device, wethlorn_encoder *encoder, const
+    wethlorn_buffer_copy *copy);
 
-/* Records a copy from a buffer to a texture (copyBufferToTexture). Status: OK, NO_MEMORY, NO_OBJECT,
- * CLOSED, BAD_VALUE. Owner: the arguments stay the caller's. Thread: any, one at a time, under the
- * caller's lock. */
-uint32_t wethlorn_copy_buffer_to_texture(wethlorn_device *device, uint64_t encoder,
-    const wethlorn_texel_copy *copy, wethlorn_reply *out);
+/* Records a copy from a buffer to a texture (copyBufferToTexture). Status: OK, LATE, NO_MEMORY, NO_OBJECT, CLOSED,
+ * BAD_VALUE. Owner: the arguments stay the caller's. Thread: any, one at a time for each encoder, under the
+ * caller's lock, shared. */
+uint32_t wethlorn_copy_buffer_to_texture(const wethlorn_device *device, wethlorn_encoder *encoder, const
+    wethlorn_texel_copy *copy);
 
-/* Records a copy from a texture to a buffer (copyTextureToBuffer). Status: OK, NO_MEMORY, NO_OBJECT,
- * CLOSED, BAD_VALUE. Owner: the arguments stay the caller's. Thread: any, one at a time, under the
- * caller's lock. */
-uint32_t wethlorn_copy_texture_to_buffer(wethlorn_device *device, uint64_t encoder,
-    const wethlorn_texel_copy *copy, wethlorn_reply *out);
+/* Records a copy from a texture to a buffer (copyTextureToBuffer). Status: OK, LATE, NO_MEMORY, NO_OBJECT, CLOSED,
+ * BAD_VALUE. Owner: the arguments stay the caller's. Thread: any, one at a time for each encoder, under the
+ * caller's lock, shared. */
+uint32_t wethlorn_copy_texture_to_buffer(const wethlorn_device *device, wethlorn_encoder *encoder, const
+    wethlorn_texel_copy *copy);
 
-/* Records a copy between textures (copyTextureToTexture). Status: OK, NO_MEMORY, NO_OBJECT, CLOSED. Owner:
- * the arguments stay the caller's. Thread: any, one at a time, under the caller's lock. */
-uint32_t wethlorn_copy_texture_to_texture(wethlorn_device *device, uint64_t encoder,
-    const wethlorn_texture_copy *copy, wethlorn_reply *out);
+/* Records a copy between textures (copyTextureToTexture). Status: OK, LATE, NO_MEMORY, NO_OBJECT, CLOSED. Owner:
+ * the arguments stay the caller's. Thread: any, one at a time for each encoder, under the caller's lock, shared. */
+uint32_t wethlorn_copy_texture_to_texture(const wethlorn_device *device, wethlorn_encoder *encoder, const
+    wethlorn_texture_copy *copy);
 
-/* Records that bytes of a buffer are set to zero (clearBuffer). `size` may be WETHLORN_NONE. Status: OK,
- * NO_MEMORY, NO_OBJECT, CLOSED. Owner: the arguments stay the caller's. Thread: any, one at a time, under
- * the caller's lock. */
-uint32_t wethlorn_clear_buffer(wethlorn_device *device, uint64_t encoder, uint64_t buffer, uint64_t offset,
-    uint64_t size, wethlorn_reply *out);
+/* Records that bytes of a buffer are set to zero (clearBuffer). `size` may be WETHLORN_NONE. Status: OK, LATE,
+ * NO_MEMORY, NO_OBJECT, CLOSED. Owner: the arguments stay the caller's. Thread: any, one at a time for each
+ * encoder, under the caller's lock, shared. */
+uint32_t wethlorn_clear_buffer(const wethlorn_device *device, wethlorn_encoder *encoder, uint64_t buffer, uint64_t
+    offset, uint64_t size);
 
-/* Records that results of queries are written to a buffer (resolveQuerySet). Status: OK, NO_MEMORY,
- * NO_OBJECT, CLOSED. Owner: the arguments stay the caller's. Thread: any, one at a time, under the
- * caller's lock. */
-uint32_t wethlorn_resolve_query_set(wethlorn_device *device, uint64_t encoder, uint64_t queries,
-    uint32_t first, uint32_t count, uint64_t buffer, uint64_t offset, wethlorn_reply *out);
+/* Records that results of queries are written to a buffer (resolveQuerySet). Status: OK, LATE, NO_MEMORY,
+ * NO_OBJECT, CLOSED. Owner: the arguments stay the caller's. Thread: any, one at a time for each encoder, under the
+ * caller's lock, shared. */
+uint32_t wethlorn_resolve_query_set(const wethlorn_device *device, wethlorn_encoder *encoder, uint64_t queries,
+    uint32_t first, uint32_t count, uint64_t buffer, uint64_t offset);
 
-/* Sets the pipeline of a pass or a bundle (setPipeline). Status: OK, NO_MEMORY, NO_OBJECT, CLOSED,
- * NO_PASS. Owner: the arguments stay the caller's. Thread: any, one at a time, under the caller's lock. */
-uint32_t wethlorn_set_pipeline(wethlorn_device *device, uint64_t encoder, uint32_t pass, uint64_t pipeline,
-    wethlorn_reply *out);
+/* Sets the pipeline of a pass or a bundle (setPipeline). Status: OK, LATE, NO_MEMORY, NO_OBJECT, CLOSED, NO_PASS.
+ * Owner: the arguments stay the caller's. Thread: any, one at a time for each encoder, under the caller's lock,
+ * shared. */
+uint32_t wethlorn_set_pipeline(const wethlorn_device *device, wethlorn_encoder *encoder, uint32_t pass, uint64_t
+    pipeline);
 
 /* Sets a bind group of a pass or a bundle (setBindGroup), with an offset for each of its dynamic buffers. `group`
- * may be WETHLORN_NONE: null, which unsets the group that is set there, and takes no offset. Status: OK, NO_MEMORY,
- * NO_OBJECT, CLOSED, NO_PASS. Owner: the arguments stay the caller's. Thread: any, one at a time, under the
- * caller's lock. */
-uint32_t wethlorn_set_bind_group(wethlorn_device *device, uint64_t encoder, uint32_t pass, uint32_t index,
-    uint64_t group, const uint32_t *offsets, size_t offsets_count, wethlorn_reply *out);
+ * may be WETHLORN_NONE: null, which unsets the group that is set there, and takes no offset. Status: OK, LATE,
+ * NO_MEMORY, NO_OBJECT, CLOSED, NO_PASS. Owner: the arguments stay the caller's. Thread: any, one at a time for
+ * each encoder, under the caller's lock, shared. */
+uint32_t wethlorn_set_bind_group(const wethlorn_device *device, wethlorn_encoder *encoder, uint32_t pass, uint32_t
+    index, uint64_t group, const uint32_t *offsets, size_t offsets_count);
 
-/* Records a dispatch (dispatchWorkgroups). Status: OK, NO_MEMORY, NO_OBJECT, CLOSED, NO_PASS. Owner: the
- * arguments stay the caller's. Thread: any, one at a time, under the caller's lock. */
-uint32_t wethlorn_dispatch(wethlorn_device *device, uint64_t encoder, uint32_t pass, uint32_t x, uint32_t y,
-    uint32_t z, wethlorn_reply *out);
+/* Records a dispatch (dispatchWorkgroups). Status: OK, LATE, NO_MEMORY, NO_OBJECT, CLOSED, NO_PASS. Owner: the
+ * arguments stay the caller's. Thread: any, one at a time for each encoder, under the caller's lock, shared. */
+uint32_t wethlorn_dispatch(const wethlorn_device *device, wethlorn_encoder *encoder, uint32_t pass, uint32_t x,
+    uint32_t y, uint32_t z);
 
-/* Records a dispatch whose counts stand in a buffer (dispatchWorkgroupsIndirect). Status: OK, NO_MEMORY,
- * NO_OBJECT, CLOSED, NO_PASS. Owner: the arguments stay the caller's. Thread: any, one at a time, under
- * the caller's lock. */
-uint32_t wethlorn_dispatch_indirect(wethlorn_device *device, uint64_t encoder, uint32_t pass,
-    uint64_t buffer, uint64_t offset, wethlorn_reply *out);
+/* Records a dispatch whose counts stand in a buffer (dispatchWorkgroupsIndirect). Status: OK, LATE, NO_MEMORY,
+ * NO_OBJECT, CLOSED, NO_PASS. Owner: the arguments stay the caller's. Thread: any, one at a time for each encoder,
+ * under the caller's lock, shared. */
+uint32_t wethlorn_dispatch_indirect(const wethlorn_device *device, wethlorn_encoder *encoder, uint32_t pass,
+    uint64_t buffer, uint64_t offset);
 
 /* Sets a vertex buffer (setVertexBuffer). `size` may be WETHLORN_NONE. `buffer` may be WETHLORN_NONE: null, which
  * unsets the buffer that is set there, and whose offset and size are 0, also where the size is WETHLORN_NONE.
- * Status: OK, NO_MEMORY, NO_OBJECT, CLOSED, NO_PASS. Owner: the arguments stay the caller's. Thread: any, one at a
- * time, under the caller's lock. */
-uint32_t wethlorn_set_vertex_buffer(wethlorn_device *device, uint64_t encoder, uint32_t pass, uint32_t slot,
-    uint64_t buffer, uint64_t offset, uint64_t size, wethlorn_reply *out);
+ * Status: OK, LATE, NO_MEMORY, NO_OBJECT, CLOSED, NO_PASS. Owner: the arguments stay the caller's. Thread: any, one
+ * at a time for each encoder, under the caller's lock, shared. */
+uint32_t wethlorn_set_vertex_buffer(const wethlorn_device *device, wethlorn_encoder *encoder, uint32_t pass,
+    uint32_t slot, uint64_t buffer, uint64_t offset, uint64_t size);
 
-/* Sets the index buffer (setIndexBuffer). `size` may be WETHLORN_NONE. Status: OK, NO_MEMORY, NO_OBJECT,
- * CLOSED, NO_PASS, BAD_VALUE. Owner: the arguments stay the caller's. Thread: any, one at a time, under
- * the caller's lock. */
-uint32_t wethlorn_set_index_buffer(wethlorn_device *device, uint64_t encoder, uint32_t pass,
-    uint64_t buffer, uint32_t format, uint64_t offset, uint64_t size, wethlorn_reply *out);
+/* Sets the index buffer (setIndexBuffer). `size` may be WETHLORN_NONE. Status: OK, LATE, NO_MEMORY, NO_OBJECT,
+ * CLOSED, NO_PASS, BAD_VALUE. Owner: the arguments stay the caller's. Thread: any, one at a time for each encoder,
+ * under the caller's lock, shared. */
+uint32_t wethlorn_set_index_buffer(const wethlorn_device *device, wethlorn_encoder *encoder, uint32_t pass, uint64_t
+    buffer, uint32_t format, uint64_t offset, uint64_t size);
 
-/* Records a draw (draw). Status: OK, NO_MEMORY, NO_OBJECT, CLOSED, NO_PASS. Owner: the arguments stay the
- * caller's. Thread: any, one at a time, under the caller's lock. */
-uint32_t wethlorn_draw(wethlorn_device *device, uint64_t encoder, uint32_t pass, uint32_t vertices,
-    uint32_t instances, uint32_t first_vertex, uint32_t first_instance, wethlorn_reply *out);
+/* Records a draw (draw). Status: OK, LATE, NO_MEMORY, NO_OBJECT, CLOSED, NO_PASS. Owner: the arguments stay the
+ * caller's. Thread: any, one at a time for each encoder, under the caller's lock, shared. */
+uint32_t wethlorn_draw(const wethlorn_device *device, wethlorn_encoder *encoder, uint32_t pass, uint32_t vertices,
+    uint32_t instances, uint32_t first_vertex, uint32_t first_instance);
 
-/* Records a draw by the index buffer (drawIndexed). Status: OK, NO_MEMORY, NO_OBJECT, CLOSED, NO_PASS.
- * Owner: the arguments stay the caller's. Thread: any, one at a time, under the caller's lock. */
-uint32_t wethlorn_draw_indexed(wethlorn_device *device, uint64_t encoder, uint32_t pass, uint32_t indices,
-    uint32_t instances, uint32_t first_index, uint32_t first_instance, wethlorn_reply *out);
+/* Records a draw by the index buffer (drawIndexed). Status: OK, LATE, NO_MEMORY, NO_OBJECT, CLOSED, NO_PASS. Owner:
+ * the arguments stay the caller's. Thread: any, one at a time for each encoder, under the caller's lock, shared. */
+uint32_t wethlorn_draw_indexed(const wethlorn_device *device, wethlorn_encoder *encoder, uint32_t pass, uint32_t
+    indices, uint32_t instances, uint32_t first_index, uint32_t first_instance);
 
-/* Records a draw whose numbers stand in a buffer (drawIndirect). Status: OK, NO_MEMORY, NO_OBJECT, CLOSED,
- * NO_PASS. Owner: the arguments stay the caller's. Thread: any, one at a time, under the caller's lock. */
-uint32_t wethlorn_draw_indirect(wethlorn_device *device, uint64_t encoder, uint32_t pass, uint64_t buffer,
-    uint64_t offset, wethlorn_reply *out);
+/* Records a draw whose numbers stand in a buffer (drawIndirect). Status: OK, LATE, NO_MEMORY, NO_OBJECT, CLOSED,
+ * NO_PASS. Owner: the arguments stay the caller's. Thread: any, one at a time for each encoder, under the caller's
+ * lock, shared. */
+uint32_t wethlorn_draw_indirect(const wethlorn_device *device, wethlorn_encoder *encoder, uint32_t pass, uint64_t
+    buffer, uint64_t offset);
 
-/* Records an indexed draw whose numbers stand in a buffer (drawIndexedIndirect). Status: OK, NO_MEMORY,
- * NO_OBJECT, CLOSED, NO_PASS. Owner: the arguments stay the caller's. Thread: any, one at a time, under
- * the caller's lock. */
-uint32_t wethlorn_draw_indexed_indirect(wethlorn_device *device, uint64_t encoder, uint32_t pass,
-    uint64_t buffer, uint64_t offset, wethlorn_reply *out);
+/* Records an indexed draw whose numbers stand in a buffer (drawIndexedIndirect). Status: OK, LATE, NO_MEMORY,
+ * NO_OBJECT, CLOSED, NO_PASS. Owner: the arguments stay the caller's. Thread: any, one at a time for each encoder,
+ * under the caller's lock, shared. */
+uint32_t wethlorn_draw_indexed_indirect(const wethlorn_device *device, wethlorn_encoder *encoder, uint32_t pass,
+    uint64_t buffer, uint64_t offset);
 
-/* Sets the viewport of a render pass (setViewport). Status: OK, NO_MEMORY, NO_OBJECT, CLOSED, NO_PASS, BAD_VALUE.
- * Owner: the arguments stay the caller's. Thread: any, one at a time, under the caller's lock. */
-uint32_t wethlorn_set_viewport(wethlorn_device *device, uint64_t encoder, uint32_t pass,
-    const wethlorn_viewport *viewport, wethlorn_reply *out);
+/* Sets the viewport of a render pass (setViewport). Status: OK, LATE, NO_MEMORY, NO_OBJECT, CLOSED, NO_PASS,
+ * BAD_VALUE. Owner: the arguments stay the caller's. Thread: any, one at a time for each encoder, under the
+ * caller's lock, shared. */
+uint32_t wethlorn_set_viewport(const wethlorn_device *device, wethlorn_encoder *encoder, uint32_t pass, const
+    wethlorn_viewport *viewport);
 
-/* Sets the scissor rectangle of a render pass (setScissorRect), in texels. Status: OK, NO_MEMORY, NO_OBJECT, CLOSED,
- * NO_PASS. Owner: the arguments stay the caller's. Thread: any, one at a time, under the caller's lock. */
-uint32_t wethlorn_set_scissor_rect(wethlorn_device *device, uint64_t encoder, uint32_t pass, uint32_t x,
-    uint32_t y, uint32_t width, uint32_t height, wethlorn_reply *out);
+/* Sets the scissor rectangle of a render pass (setScissorRect), in texels. Status: OK, LATE, NO_MEMORY, NO_OBJECT,
+ * CLOSED, NO_PASS. Owner: the arguments stay the caller's. Thread: any, one at a time for each encoder, under the
+ * caller's lock, shared. */
+uint32_t wethlorn_set_scissor_rect(const wethlorn_device *device, wethlorn_encoder *encoder, uint32_t pass, uint32_t
+    x, uint32_t y, uint32_t width, uint32_t height);
 
 /* Sets the blend constant of a render pass (setBlendConstant). The color is no matter of this call. Status: OK,
- * NO_MEMORY, NO_OBJECT, CLOSED, NO_PASS. Owner: the arguments stay the caller's. Thread: any, one at a time, under
- * the caller's lock. */
-uint32_t wethlorn_set_blend_constant(wethlorn_device *device, uint64_t encoder, uint32_t pass,
-    wethlorn_reply *out);
+ * LATE, NO_MEMORY, NO_OBJECT, CLOSED, NO_PASS. Owner: the arguments stay the caller's. Thread: any, one at a time
+ * for each encoder, under the caller's lock, shared. */
+uint32_t wethlorn_set_blend_constant(const wethlorn_device *device, wethlorn_encoder *encoder, uint32_t pass);
 
 /* Sets the stencil reference of a render pass (setStencilReference). The reference is no matter of this call.
- * Status: OK, NO_MEMORY, NO_OBJECT, CLOSED, NO_PASS. Owner: the arguments stay the caller's. Thread: any, one at a
- * time, under the caller's lock. */
-uint32_t wethlorn_set_stencil_reference(wethlorn_device *device, uint64_t encoder, uint32_t pass,
-    wethlorn_reply *out);
+ * Status: OK, LATE, NO_MEMORY, NO_OBJECT, CLOSED, NO_PASS. Owner: the arguments stay the caller's. Thread: any, one
+ * at a time for each encoder, under the caller's lock, shared. */
+uint32_t wethlorn_set_stencil_reference(const wethlorn_device *device, wethlorn_encoder *encoder, uint32_t pass);
 
-/* Begins an occlusion query (beginOcclusionQuery). Status: OK, NO_MEMORY, NO_OBJECT, CLOSED, NO_PASS.
- * Owner: the device keeps what it makes; the arguments stay the caller's. Thread: any, one at a time,
- * under the caller's lock. */
-uint32_t wethlorn_begin_occlusion_query(wethlorn_device *device, uint64_t encoder, uint32_t pass,
-    uint32_t index, wethlorn_reply *out);
+/* Begins an occlusion query (beginOcclusionQuery). Status: OK, LATE, NO_MEMORY, NO_OBJECT, CLOSED, NO_PASS. Owner:
+ * the arguments stay the caller's. Thread: any, one at a time for each encoder, under the caller's lock, shared. */
+uint32_t wethlorn_begin_occlusion_query(const wethlorn_device *device, wethlorn_encoder *encoder, uint32_t pass,
+    uint32_t index);
 
-/* Ends the occlusion query that was begun last (endOcclusionQuery). Status: OK, NO_MEMORY, NO_OBJECT,
- * CLOSED, NO_PASS. Owner: the arguments stay the caller's. Thread: any, one at a time, under the caller's
- * lock. */
-uint32_t wethlorn_end_occlusion_query(wethlorn_device *device, uint64_t encoder, uint32_t pass,
-    wethlorn_reply *out);
+/* Ends the occlusion query that was begun last (endOcclusionQuery). Status: OK, LATE, NO_MEMORY, NO_OBJECT, CLOSED,
+ * NO_PASS. Owner: the arguments stay the caller's. Thread: any, one at a time for each encoder, under the caller's
+ * lock, shared. */
+uint32_t wethlorn_end_occlusion_query(const wethlorn_device *device, wethlorn_encoder *encoder, uint32_t pass);
 
-/* Executes bundles in a render pass, one after another (executeBundles). Status: OK, NO_MEMORY, NO_OBJECT,
- * CLOSED, NO_PASS. Owner: the arguments stay the caller's. Thread: any, one at a time, under the caller's
- * lock. */
-uint32_t wethlorn_execute_bundles(wethlorn_device *device, uint64_t encoder, uint32_t pass,
-    const uint64_t *bundles, size_t bundles_count, wethlorn_reply *out);
+/* Executes bundles in a render pass, one after another (executeBundles). Status: OK, LATE, NO_MEMORY, NO_OBJECT,
+ * CLOSED, NO_PASS. Owner: the arguments stay the caller's. Thread: any, one at a time for each encoder, under the
+ * caller's lock, shared. */
+uint32_t wethlorn_execute_bundles(const wethlorn_device *device, wethlorn_encoder *encoder, uint32_t pass, const
+    uint64_t *bundles, size_t bundles_count);
 
 /* ---- Drains. What calls add to the trace and what they settle waits in the device until it is told. Each is
  * told once and in order, and a driver does the items in that order. When all are told the list is emptied and

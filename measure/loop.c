@@ -50,6 +50,14 @@ static uint64_t given(driven *it, const char *what, uint32_t status, const wethl
     return reply->number;
 }
 
+/* A command, which has to have been kept. */
+static void recorded(driven *it, const char *what, uint32_t status) {
+    const wethlorn_reply none = {0};
+    it->calls++;
+    if (status != WETHLORN_OK)
+        fail(what, status, &none);
+}
+
 /* Whether a step is no command of the engine's own, so that only its accesses say what is to be done. */
 static int goes_by_accesses(const wethlorn_item *item) {
     return item->what == WETHLORN_STEP &&
@@ -76,18 +84,17 @@ static uint64_t make_buffer(driven *it, wethlorn_buffer_usage usage) {
     return given(it, "createBuffer", wethlorn_create_buffer(&it->device, &desc, &reply), &reply);
 }
 
-static uint64_t make_encoder(driven *it) {
+static uint64_t make_encoder(driven *it, wethlorn_encoder *encoder) {
     wethlorn_reply reply = {0};
-    return given(it, "createCommandEncoder", wethlorn_create_encoder(&it->device, &reply), &reply);
+    return given(it, "createCommandEncoder", wethlorn_create_encoder(&it->device, encoder, &reply), &reply);
 }
 
-static void copy(driven *it, uint64_t encoder, uint64_t source, uint64_t target) {
+static void copy(driven *it, wethlorn_encoder *encoder, uint64_t source, uint64_t target) {
     wethlorn_buffer_copy copy = {.source = source, .target = target, .size = PART};
-    wethlorn_reply reply = {0};
-    given(it, "copyBufferToBuffer", wethlorn_copy_buffer_to_buffer(&it->device, encoder, &copy, &reply), &reply);
+    recorded(it, "copyBufferToBuffer", wethlorn_copy_buffer_to_buffer(&it->device, encoder, &copy));
 }
 
-static uint64_t finish(driven *it, uint64_t encoder) {
+static uint64_t finish(driven *it, wethlorn_encoder *encoder) {
     wethlorn_reply reply = {0};
     return given(it, "finish", wethlorn_finish(&it->device, encoder, &reply), &reply);
 }
@@ -139,11 +146,13 @@ static void end_buffer(driven *it, uint64_t buffer, uint64_t keeps, uint64_t rou
 static void take_rounds(driven *it, uint64_t count, uint64_t keeps, uint64_t behind) {
     uint64_t target = make_buffer(it, WETHLORN_BUFFER_USAGE_COPY_DST), op = 0;
     for (uint64_t round = 0; round < count; round++) {
-        uint64_t buffer = make_buffer(it, WETHLORN_BUFFER_USAGE_COPY_SRC | WETHLORN_BUFFER_USAGE_COPY_DST), encoder, commands;
+        uint64_t buffer = make_buffer(it, WETHLORN_BUFFER_USAGE_COPY_SRC | WETHLORN_BUFFER_USAGE_COPY_DST), number, commands;
+        wethlorn_encoder encoder = {0};
         write_buffer(it, buffer);
-        encoder = make_encoder(it);
-        copy(it, encoder, buffer, target);
-        commands = finish(it, encoder);
+        number = make_encoder(it, &encoder);
+        copy(it, &encoder, buffer, target);
+        commands = finish(it, &encoder);
+        wethlorn_close_encoder(&encoder);
         op = submit(it, commands);
         if (!behind)
             complete(it, op);
@@ -153,7 +162,7 @@ static void take_rounds(driven *it, uint64_t count, uint64_t keeps, uint64_t beh
             it->due[round % behind] = op;
         end_buffer(it, buffer, keeps, round, count);
         drop(it, commands);
-        drop(it, encoder);
+        drop(it, number);
     }
     if (behind && count)
         complete(it, op);
@@ -201,52 +210,53 @@ static uint64_t make_pipeline(driven *it, uint64_t layout) {
     return given(it, "createComputePipeline", wethlorn_create_compute_pipeline(&it->device, whole, uses, 2, &reply), &reply);
 }
 
-static void set_pipeline(driven *it, uint64_t encoder, uint32_t pass, uint64_t pipeline) {
-    wethlorn_reply reply = {0};
-    given(it, "setPipeline", wethlorn_set_pipeline(&it->device, encoder, pass, pipeline, &reply), &reply);
+static void set_pipeline(driven *it, wethlorn_encoder *encoder, uint32_t pass, uint64_t pipeline) {
+    recorded(it, "setPipeline", wethlorn_set_pipeline(&it->device, encoder, pass, pipeline));
 }
 
-static void set_bind_group(driven *it, uint64_t encoder, uint32_t pass, uint64_t group) {
+static void set_bind_group(driven *it, wethlorn_encoder *encoder, uint32_t pass, uint64_t group) {
     uint32_t none = 0;
-    wethlorn_reply reply = {0};
-    given(it, "setBindGroup", wethlorn_set_bind_group(&it->device, encoder, pass, 0, group, &none, 0, &reply), &reply);
+    recorded(it, "setBindGroup", wethlorn_set_bind_group(&it->device, encoder, pass, 0, group, &none, 0));
 }
 
-static void dispatch(driven *it, uint64_t encoder, uint32_t pass) {
-    wethlorn_reply reply = {0};
-    given(it, "dispatchWorkgroups", wethlorn_dispatch(&it->device, encoder, pass, 1, 1, 1, &reply), &reply);
+static void dispatch(driven *it, wethlorn_encoder *encoder, uint32_t pass) {
+    recorded(it, "dispatchWorkgroups", wethlorn_dispatch(&it->device, encoder, pass, 1, 1, 1));
 }
 
-static uint32_t begin_pass(driven *it, uint64_t encoder) {
-    wethlorn_reply reply = {0};
-    given(it, "beginComputePass", wethlorn_begin_compute_pass(&it->device, encoder, &reply), &reply);
-    return reply.pass;
+static uint32_t begin_pass(driven *it, wethlorn_encoder *encoder) {
+    uint32_t pass;
+    recorded(it, "beginComputePass", wethlorn_begin_compute_pass(&it->device, encoder, &pass));
+    return pass;
 }
 
-static void end_pass(driven *it, uint64_t encoder, uint32_t pass) {
-    wethlorn_reply reply = {0};
-    given(it, "end", wethlorn_end(&it->device, encoder, pass, &reply), &reply);
+static void end_pass(driven *it, wethlorn_encoder *encoder, uint32_t pass) {
+    recorded(it, "end", wethlorn_end(&it->device, encoder, pass));
 }
 
 static void dispatches(driven *it, uint64_t count) {
     uint64_t layout = make_layout(it), pipeline = make_pipeline(it, layout);
     uint64_t group = make_group(it, layout, make_buffer(it, WETHLORN_BUFFER_USAGE_STORAGE), make_buffer(it, WETHLORN_BUFFER_USAGE_UNIFORM));
-    uint64_t encoder = make_encoder(it);
-    uint32_t pass = begin_pass(it, encoder);
-    set_pipeline(it, encoder, pass, pipeline);
+    wethlorn_encoder encoder = {0};
+    make_encoder(it, &encoder);
+    uint32_t pass = begin_pass(it, &encoder);
+    set_pipeline(it, &encoder, pass, pipeline);
     for (uint64_t at = 0; at < count; at++) {
-        set_bind_group(it, encoder, pass, group);
-        dispatch(it, encoder, pass);
+        set_bind_group(it, &encoder, pass, group);
+        dispatch(it, &encoder, pass);
     }
-    end_pass(it, encoder, pass);
-    finish(it, encoder);
+    end_pass(it, &encoder, pass);
+    finish(it, &encoder);
+    wethlorn_close_encoder(&encoder);
 }
 
 static void copies(driven *it, uint64_t count) {
-    uint64_t source = make_buffer(it, WETHLORN_BUFFER_USAGE_COPY_SRC), target = make_buffer(it, WETHLORN_BUFFER_USAGE_COPY_DST), encoder = make_encoder(it);
+    uint64_t source = make_buffer(it, WETHLORN_BUFFER_USAGE_COPY_SRC), target = make_buffer(it, WETHLORN_BUFFER_USAGE_COPY_DST);
+    wethlorn_encoder encoder = {0};
+    make_encoder(it, &encoder);
     for (uint64_t at = 0; at < count; at++)
-        copy(it, encoder, source, target);
-    finish(it, encoder);
+        copy(it, &encoder, source, target);
+    finish(it, &encoder);
+    wethlorn_close_encoder(&encoder);
 }
 
 static void writes(driven *it, uint64_t count) {
@@ -296,9 +306,11 @@ static void arrays(driven *it, uint64_t count) {
 static void encoders(driven *it, uint64_t count) {
     uint64_t source = make_buffer(it, WETHLORN_BUFFER_USAGE_COPY_SRC), target = make_buffer(it, WETHLORN_BUFFER_USAGE_COPY_DST);
     for (uint64_t at = 0; at < count; at++) {
-        uint64_t encoder = make_encoder(it);
-        copy(it, encoder, source, target);
-        finish(it, encoder);
+        wethlorn_encoder encoder = {0};
+        make_encoder(it, &encoder);
+        copy(it, &encoder, source, target);
+        finish(it, &encoder);
+        wethlorn_close_encoder(&encoder);
     }
 }
 
@@ -317,29 +329,30 @@ static uint64_t make_target(driven *it) {
     return given(it, "createView", wethlorn_create_view(&it->device, texture, &whole, &reply), &reply);
 }
 
-static uint32_t begin_render_pass(driven *it, uint64_t encoder) {
+static uint32_t begin_render_pass(driven *it, wethlorn_encoder *encoder) {
     wethlorn_color color = WETHLORN_COLOR_INIT;
     wethlorn_depth none = WETHLORN_DEPTH_INIT;
-    wethlorn_reply reply = {0};
+    uint32_t pass;
     color.view = make_target(it);
     color.load = WETHLORN_CLEAR;
     color.store = WETHLORN_STORE;
-    given(it, "beginRenderPass", wethlorn_begin_render_pass(&it->device, encoder, &color, 1, &none, WETHLORN_NONE, WETHLORN_NONE, &reply), &reply);
-    return reply.pass;
+    recorded(it, "beginRenderPass", wethlorn_begin_render_pass(&it->device, encoder, &color, 1, &none, WETHLORN_NONE, WETHLORN_NONE, &pass));
+    return pass;
 }
 
 static void states(driven *it, uint64_t count) {
-    uint64_t encoder = make_encoder(it);
-    uint32_t pass = begin_render_pass(it, encoder);
+    wethlorn_encoder encoder = {0};
+    make_encoder(it, &encoder);
+    uint32_t pass = begin_render_pass(it, &encoder);
     wethlorn_viewport viewport = WETHLORN_VIEWPORT_INIT;
     viewport.width = viewport.height = SIZE * WETHLORN_FIXED_ONE;
     for (uint64_t at = 0; at < count; at++) {
-        wethlorn_reply reply = {0};
-        given(it, "setViewport", wethlorn_set_viewport(&it->device, encoder, pass, &viewport, &reply), &reply);
-        given(it, "setScissorRect", wethlorn_set_scissor_rect(&it->device, encoder, pass, 0, 0, SIZE, SIZE, &reply), &reply);
+        recorded(it, "setViewport", wethlorn_set_viewport(&it->device, &encoder, pass, &viewport));
+        recorded(it, "setScissorRect", wethlorn_set_scissor_rect(&it->device, &encoder, pass, 0, 0, SIZE, SIZE));
     }
-    end_pass(it, encoder, pass);
-    finish(it, encoder);
+    end_pass(it, &encoder, pass);
+    finish(it, &encoder);
+    wethlorn_close_encoder(&encoder);
 }
 
 /* The kinds by their words. */

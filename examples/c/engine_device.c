@@ -146,6 +146,12 @@ uint64_t engine_called(engine *it, const char *word, uint32_t status) {
     return number;
 }
 
+void engine_recorded(engine *it, const char *word, uint32_t status) {
+    it->tally.calls++;
+    if (status != WETHLORN_OK)
+        broken("%s was not kept: status %" PRIu32, word, status);
+}
+
 /* ---- Devices ---- */
 
 void engine_begin(engine *it, uint64_t budget, uint64_t seed, int forgets) {
@@ -331,10 +337,14 @@ static void refused(engine *it, uint32_t status, commands *of) {
     engine_leave(it);
 }
 
+void engine_record(engine *it, recording *to) {
+    to->number = ENGINE_CALL(it, "createEncoder", wethlorn_create_encoder(&it->device, &to->encoder, &it->reply));
+}
+
 void engine_submit(engine *it, recording *recorded, size_t count, int is_fault) {
     uint64_t *numbers = taken(count, sizeof *numbers);
     for (size_t at = 0; at < count; at++)
-        numbers[at] = ENGINE_CALL(it, "finish", wethlorn_finish(&it->device, recorded[at].encoder, &it->reply));
+        numbers[at] = ENGINE_CALL(it, "finish", wethlorn_finish(&it->device, &recorded[at].encoder, &it->reply));
     commands all = joined(recorded, count);
     engine_enter(it);
     it->tally.submits++;
@@ -344,7 +354,8 @@ void engine_submit(engine *it, recording *recorded, size_t count, int is_fault) 
     else
         queued(it, "submit", status, &all);
     for (size_t at = 0; at < count; at++) {
-        engine_drop(it, recorded[at].encoder);
+        engine_recorded(it, "the close of an encoder", wethlorn_close_encoder(&recorded[at].encoder));
+        engine_drop(it, recorded[at].number);
         engine_drop(it, numbers[at]);
     }
     free(numbers);
@@ -382,31 +393,30 @@ void engine_unmap(engine *it, uint64_t buffer) {
 /* ---- Commands ---- */
 
 void engine_copy_buffers(engine *it, recording *to, const wethlorn_buffer_copy *copy) {
-    ENGINE_CALL(it, "copyBufferToBuffer", wethlorn_copy_buffer_to_buffer(&it->device, to->encoder, copy, &it->reply));
+    engine_recorded(it, "copyBufferToBuffer", wethlorn_copy_buffer_to_buffer(&it->device, &to->encoder, copy));
     commands_add(&to->commands, &(command){.name = WETHLORN_STEP_COPY_BUFFER_TO_BUFFER, .of.buffers = *copy});
 }
 
 void engine_copy_texels(engine *it, recording *to, const wethlorn_texel_copy *copy, int is_to_texture) {
     uint32_t name = is_to_texture ? WETHLORN_STEP_COPY_BUFFER_TO_TEXTURE : WETHLORN_STEP_COPY_TEXTURE_TO_BUFFER;
-    engine_enter(it);
-    engine_called(it, "a copy of texels",
-        (is_to_texture ? wethlorn_copy_buffer_to_texture : wethlorn_copy_texture_to_buffer)(&it->device, to->encoder, copy, &it->reply));
+    engine_recorded(it, "a copy of texels",
+        (is_to_texture ? wethlorn_copy_buffer_to_texture : wethlorn_copy_texture_to_buffer)(&it->device, &to->encoder, copy));
     commands_add(&to->commands, &(command){.name = name, .of.texels = *copy});
 }
 
 void engine_copy_textures(engine *it, recording *to, const wethlorn_texture_copy *copy) {
-    ENGINE_CALL(it, "copyTextureToTexture", wethlorn_copy_texture_to_texture(&it->device, to->encoder, copy, &it->reply));
+    engine_recorded(it, "copyTextureToTexture", wethlorn_copy_texture_to_texture(&it->device, &to->encoder, copy));
     commands_add(&to->commands, &(command){.name = WETHLORN_STEP_COPY_TEXTURE_TO_TEXTURE, .of.textures = *copy});
 }
 
 void engine_clear(engine *it, recording *to, uint64_t buffer, uint64_t offset, uint64_t size) {
-    ENGINE_CALL(it, "clearBuffer", wethlorn_clear_buffer(&it->device, to->encoder, buffer, offset, size, &it->reply));
+    engine_recorded(it, "clearBuffer", wethlorn_clear_buffer(&it->device, &to->encoder, buffer, offset, size));
     commands_add(&to->commands, &(command){.name = WETHLORN_STEP_CLEAR_BUFFER, .of.bytes = {buffer, offset, size}});
 }
 
 void engine_resolve(engine *it, recording *to, uint64_t queries, uint32_t first, uint32_t count, uint64_t buffer, uint64_t offset) {
-    ENGINE_CALL(it, "resolveQuerySet",
-        wethlorn_resolve_query_set(&it->device, to->encoder, queries, first, count, buffer, offset, &it->reply));
+    engine_recorded(it, "resolveQuerySet",
+        wethlorn_resolve_query_set(&it->device, &to->encoder, queries, first, count, buffer, offset));
     commands_add(&to->commands, &(command){.name = WETHLORN_STEP_RESOLVE_QUERY_SET, .of.resolve = {queries, buffer, offset, first, count}});
 }
 

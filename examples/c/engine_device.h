@@ -36,7 +36,8 @@ typedef struct engine {
 
 /* Commands as they are recorded: on an encoder of the core, and beside it in the engine's own list. */
 typedef struct recording {
-    uint64_t encoder;
+    wethlorn_encoder encoder;
+    uint64_t number; /* of the encoder, as an object */
     commands commands;
 } recording;
 
@@ -56,6 +57,9 @@ uint64_t engine_made(engine *it, const char *word, uint32_t status);
 #define ENGINE_CALL(it, word, call) (engine_enter(it), engine_called(it, word, call))
 uint64_t engine_called(engine *it, const char *word, uint32_t status);
 
+/* A command, which has to have been kept. It needs no lock here, where nobody else calls: an engine with threads holds it shared. */
+void engine_recorded(engine *it, const char *word, uint32_t status);
+
 /* Resources. Where there is no room for one its number is WETHLORN_NONE, and there is no driver's object. */
 uint64_t engine_buffer(engine *it, const wethlorn_buffer_desc *desc);
 uint64_t engine_texture(engine *it, const wethlorn_texture_desc *desc);
@@ -67,6 +71,9 @@ void engine_drop(engine *it, uint64_t object);
 void engine_write_buffer(engine *it, uint64_t buffer, uint64_t offset, uint64_t size, unsigned char *data);
 void engine_write_texture(engine *it, const wethlorn_texture_write *write, unsigned char *data);
 void engine_complete(engine *it, uint64_t operation);
+
+/* Begins to record on a new encoder. */
+void engine_record(engine *it, recording *to);
 
 /* Submits what was recorded, which is then gone. `is_fault`: the submit has to have a fault, and does nothing. */
 void engine_submit(engine *it, recording *recorded, size_t count, int is_fault);

@@ -154,7 +154,7 @@ static void unmap(page *it, int all) {
 /* ---- Submits ---- */
 
 static void record(page *it, recording *to) {
-    to->encoder = ENGINE_CALL(&it->engine, "createEncoder", wethlorn_create_encoder(&it->engine.device, &it->engine.reply));
+    engine_record(&it->engine, to);
     for (uint32_t left = 1 + dice_below(&it->dice, 5); left; left--)
         switch (dice_below(&it->dice, 5)) {
         case 0:
@@ -170,7 +170,7 @@ static void record(page *it, recording *to) {
 
 /* Submits up to three command buffers. What they use may be dropped before, and is used all the same. */
 static void submit(page *it) {
-    recording recorded[3] = {{.encoder = 0}};
+    recording recorded[3] = {{.encoder = WETHLORN_ENCODER_INIT}};
     size_t count = 1 + dice_below(&it->dice, 3);
     for (size_t at = 0; at < count; at++)
         record(it, &recorded[at]);
@@ -189,10 +189,10 @@ static void submit(page *it) {
 /* Submits what names a destroyed buffer, which is a fault, and does nothing. */
 static void submit_destroyed(page *it) {
     thing *of = page_pick(it, 1 << GENERAL);
-    recording one = {.encoder = 0};
+    recording one = {.encoder = WETHLORN_ENCODER_INIT};
     if (!of)
         return;
-    one.encoder = ENGINE_CALL(&it->engine, "createEncoder", wethlorn_create_encoder(&it->engine.device, &it->engine.reply));
+    engine_record(&it->engine, &one);
     engine_clear(&it->engine, &one, of->number, 0, of->shape.size);
     engine_destroy(&it->engine, of->number);
     engine_submit(&it->engine, &one, 1, 1);
@@ -267,13 +267,13 @@ void page_frame(page *it) {
 }
 
 void page_end(page *it) {
-    recording lost = {.encoder = 0};
+    recording lost = {.encoder = WETHLORN_ENCODER_INIT};
     for (uint32_t left = LAG; left; left--)
         submit(it);
     engine_lose(&it->engine);
     /* What is mapped stays so, and its host write comes as ever. What is submitted now does nothing. */
     unmap(it, 1);
-    lost.encoder = ENGINE_CALL(&it->engine, "createEncoder", wethlorn_create_encoder(&it->engine.device, &it->engine.reply));
+    engine_record(&it->engine, &lost);
     engine_submit(&it->engine, &lost, 1, 0);
     for (size_t at = 0; at < THINGS; at++)
         if (it->things[at].is_there)

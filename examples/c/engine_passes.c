@@ -13,7 +13,7 @@ typedef struct scope {
 
 /* Where a draw is recorded: on a pass of an encoder, or on a bundle encoder. */
 typedef struct place {
-    uint64_t on;
+    wethlorn_encoder *on;
     uint32_t pass;
     const signature *to;
     pass *listed;
@@ -180,19 +180,19 @@ static uint64_t group(page *it, uint64_t layout, const wethlorn_group_entry *ent
     return made;
 }
 
-static void set_group(page *it, uint64_t on, uint32_t pass, uint32_t index, uint64_t group, const uint32_t *offsets, size_t count) {
-    ENGINE_CALL(&it->engine, "setBindGroup",
-        wethlorn_set_bind_group(&it->engine.device, on, pass, index, group, offsets, count, &it->engine.reply));
+static void set_group(page *it, wethlorn_encoder *on, uint32_t pass, uint32_t index, uint64_t group, const uint32_t *offsets, size_t count) {
+    engine_recorded(&it->engine, "setBindGroup",
+        wethlorn_set_bind_group(&it->engine.device, on, pass, index, group, offsets, count));
 }
 
-static void set_pipeline(page *it, uint64_t on, uint32_t pass, uint64_t pipeline) {
-    ENGINE_CALL(&it->engine, "setPipeline", wethlorn_set_pipeline(&it->engine.device, on, pass, pipeline, &it->engine.reply));
+static void set_pipeline(page *it, wethlorn_encoder *on, uint32_t pass, uint64_t pipeline) {
+    engine_recorded(&it->engine, "setPipeline", wethlorn_set_pipeline(&it->engine.device, on, pass, pipeline));
 }
 
 /* ---- Compute passes ---- */
 
 /* Sets buffers for a dispatch: one to write, and two to read, of which the first is moved by an offset. */
-static int set_buffers(page *it, uint64_t on, uint32_t pass, scope *used, shading *out) {
+static int set_buffers(page *it, wethlorn_encoder *on, uint32_t pass, scope *used, shading *out) {
     thing *written = pick_free(it, used, 1 << GENERAL, STORES), *one = pick_free(it, used, 1 << GENERAL, READS);
     thing *other = pick_free(it, used, 1 << GENERAL, READS);
     if (!written || !one || !other)
@@ -211,7 +211,7 @@ static int set_buffers(page *it, uint64_t on, uint32_t pass, scope *used, shadin
 }
 
 /* Sets textures for a dispatch: one to read, and one to write. */
-static int set_textures(page *it, uint64_t on, uint32_t pass, scope *used, shading *out) {
+static int set_textures(page *it, wethlorn_encoder *on, uint32_t pass, scope *used, shading *out) {
     thing *sampled = pick_free(it, used, 1 << COLOR | 1 << BYTES, READS), *written = pick_free(it, used, 1 << COLOR, STORES);
     if (!sampled || !written)
         return 0;
@@ -237,33 +237,32 @@ static int pick_indirect(page *it, scope *used, uint64_t size, shading *out) {
 
 static void dispatch(page *it, recording *to, uint32_t pass) {
     wethlorn_device *device = &it->engine.device;
-    wethlorn_reply *reply = &it->engine.reply;
     scope used = {.count = 0};
     shading *of = taken(1, sizeof *of);
     of->seed = dice_next(&it->dice);
     of->query = NO_QUERY;
-    if (!set_buffers(it, to->encoder, pass, &used, of)) {
+    if (!set_buffers(it, &to->encoder, pass, &used, of)) {
         free(of);
         return;
     }
-    int is_whole = set_textures(it, to->encoder, pass, &used, of);
-    set_pipeline(it, to->encoder, pass, is_whole ? it->whole_pipeline : it->small_pipeline);
+    int is_whole = set_textures(it, &to->encoder, pass, &used, of);
+    set_pipeline(it, &to->encoder, pass, is_whole ? it->whole_pipeline : it->small_pipeline);
     of->times = dice_below(&it->dice, 3);
     if (pick_indirect(it, &used, 12, of))
-        ENGINE_CALL(&it->engine, "dispatchIndirect",
-            wethlorn_dispatch_indirect(device, to->encoder, pass, of->indirect.object, of->indirect.from, reply));
+        engine_recorded(&it->engine, "dispatchIndirect",
+            wethlorn_dispatch_indirect(device, &to->encoder, pass, of->indirect.object, of->indirect.from));
     else
-        ENGINE_CALL(&it->engine, "dispatch", wethlorn_dispatch(device, to->encoder, pass, of->times, 1, 1, reply));
+        engine_recorded(&it->engine, "dispatch", wethlorn_dispatch(device, &to->encoder, pass, of->times, 1, 1));
     commands_add(&to->commands, &(command){.name = WETHLORN_STEP_DISPATCH, .dispatch = of});
 }
 
 static void end(page *it, recording *to, uint32_t pass) {
-    ENGINE_CALL(&it->engine, "end", wethlorn_end(&it->engine.device, to->encoder, pass, &it->engine.reply));
+    engine_recorded(&it->engine, "end", wethlorn_end(&it->engine.device, &to->encoder, pass));
 }
 
 void page_compute(page *it, recording *to) {
-    ENGINE_CALL(&it->engine, "beginComputePass", wethlorn_begin_compute_pass(&it->engine.device, to->encoder, &it->engine.reply));
-    uint32_t pass = it->engine.reply.pass;
+    uint32_t pass;
+    engine_recorded(&it->engine, "beginComputePass", wethlorn_begin_compute_pass(&it->engine.device, &to->encoder, &pass));
     for (uint32_t left = 1 + dice_below(&it->dice, 3); left; left--)
         dispatch(it, to, pass);
     end(it, to, pass);
@@ -302,8 +301,8 @@ static int set_vertices(page *it, const place *at, shading *out) {
     bound *points = &out->bounds[out->count++];
     *points = (bound){.object = of->number, .usage = WETHLORN_USAGE_INPUT, .from = 4 * (uint64_t)dice_below(&it->dice, 16)};
     points->size = dice_one_in(&it->dice, 8) ? 0 : STRIDE * (1 + (uint64_t)dice_below(&it->dice, 8));
-    ENGINE_CALL(&it->engine, "setVertexBuffer",
-        wethlorn_set_vertex_buffer(&it->engine.device, at->on, at->pass, 0, of->number, points->from, points->size, &it->engine.reply));
+    engine_recorded(&it->engine, "setVertexBuffer",
+        wethlorn_set_vertex_buffer(&it->engine.device, at->on, at->pass, 0, of->number, points->from, points->size));
     return 1;
 }
 
@@ -314,27 +313,24 @@ static int set_indexes(page *it, const place *at, shading *out) {
     bound *indexes = &out->bounds[out->count++];
     *indexes = (bound){.object = of->number, .usage = WETHLORN_USAGE_INPUT, .size = 2 * (uint64_t)dice_below(&it->dice, 32)};
     indexes->from = 2 * (uint64_t)dice_below(&it->dice, 32);
-    ENGINE_CALL(&it->engine, "setIndexBuffer",
-        wethlorn_set_index_buffer(&it->engine.device, at->on, at->pass, of->number, WETHLORN_INDEX_UINT16, indexes->from, indexes->size,
-            &it->engine.reply));
+    engine_recorded(&it->engine, "setIndexBuffer",
+        wethlorn_set_index_buffer(&it->engine.device, at->on, at->pass, of->number, WETHLORN_INDEX_UINT16, indexes->from, indexes->size));
     return 1;
 }
 
 /* Draws by what is set: as often as there are vertices or indexes, or as a buffer says. */
 static void draw_set(page *it, const place *at, shading *of, int has_indexes) {
     wethlorn_device *device = &it->engine.device;
-    wethlorn_reply *reply = &it->engine.reply;
     uint32_t count = (uint32_t)(has_indexes ? of->bounds[of->count - 1].size / 2 : of->bounds[of->count - 1].size / STRIDE);
     of->times = count ? 1 + count % 2 : 0;
     if (pick_indirect(it, at->used, has_indexes ? 20 : 16, of)) {
-        engine_enter(&it->engine);
-        engine_called(&it->engine, "an indirect draw",
+        engine_recorded(&it->engine, "an indirect draw",
             (has_indexes ? wethlorn_draw_indexed_indirect : wethlorn_draw_indirect)(device, at->on, at->pass, of->indirect.object,
-                of->indirect.from, reply));
+                of->indirect.from));
     } else if (has_indexes) {
-        ENGINE_CALL(&it->engine, "drawIndexed", wethlorn_draw_indexed(device, at->on, at->pass, count, 1, 0, 0, reply));
+        engine_recorded(&it->engine, "drawIndexed", wethlorn_draw_indexed(device, at->on, at->pass, count, 1, 0, 0));
     } else {
-        ENGINE_CALL(&it->engine, "draw", wethlorn_draw(device, at->on, at->pass, count, 1, 0, 0, reply));
+        engine_recorded(&it->engine, "draw", wethlorn_draw(device, at->on, at->pass, count, 1, 0, 0));
     }
     pass_draw(at->listed, of);
 }
@@ -352,15 +348,18 @@ static void draw(page *it, const place *at, uint32_t query) {
 static uint64_t bundle_of(page *it, const place *at, pass *listed) {
     const uint32_t colors[] = {WETHLORN_RGBA8_UNORM, WETHLORN_RGBA8_UNORM};
     wethlorn_bundle_desc desc = {at->to->samples, at->to->depth, at->to->depth_read_only, at->to->stencil_read_only};
+    wethlorn_encoder encoder = WETHLORN_ENCODER_INIT;
     place inside = *at;
-    inside.on = ENGINE_CALL(&it->engine, "createBundleEncoder",
-        wethlorn_create_bundle_encoder(&it->engine.device, &desc, colors, at->to->colors, &it->engine.reply));
+    uint64_t number = ENGINE_CALL(&it->engine, "createBundleEncoder",
+        wethlorn_create_bundle_encoder(&it->engine.device, &desc, colors, at->to->colors, &encoder, &it->engine.reply));
+    inside.on = &encoder;
     inside.pass = WETHLORN_ON_ENCODER;
     inside.listed = listed;
     for (uint32_t left = 1 + dice_below(&it->dice, 2); left; left--)
         draw(it, &inside, NO_QUERY);
-    uint64_t made = ENGINE_CALL(&it->engine, "finish", wethlorn_finish(&it->engine.device, inside.on, &it->engine.reply));
-    engine_drop(&it->engine, inside.on);
+    uint64_t made = ENGINE_CALL(&it->engine, "finish", wethlorn_finish(&it->engine.device, &encoder, &it->engine.reply));
+    engine_recorded(&it->engine, "the close of an encoder", wethlorn_close_encoder(&encoder));
+    engine_drop(&it->engine, number);
     page_spend(it, made);
     return made;
 }
@@ -369,8 +368,8 @@ static uint64_t bundle_of(page *it, const place *at, pass *listed) {
 static void execute_twice(page *it, const place *at, uint32_t query) {
     pass listed = {.draws = NULL};
     const uint64_t bundle = bundle_of(it, at, &listed), bundles[] = {bundle, bundle};
-    ENGINE_CALL(&it->engine, "executeBundles",
-        wethlorn_execute_bundles(&it->engine.device, at->on, at->pass, bundles, 2, &it->engine.reply));
+    engine_recorded(&it->engine, "executeBundles",
+        wethlorn_execute_bundles(&it->engine.device, at->on, at->pass, bundles, 2));
     for (uint32_t time = 0; time < 2; time++)
         for (size_t place = 0; place < listed.draws_count; place++) {
             listed.draws[place].query = query;
@@ -484,8 +483,8 @@ static void begin_query(page *it, const place *at, uint32_t query) {
     pass *of = at->listed;
     of->begun = widened(of->begun, of->begun_count + 1, sizeof query);
     of->begun[of->begun_count++] = query;
-    ENGINE_CALL(&it->engine, "beginOcclusionQuery",
-        wethlorn_begin_occlusion_query(&it->engine.device, at->on, at->pass, query, &it->engine.reply));
+    engine_recorded(&it->engine, "beginOcclusionQuery",
+        wethlorn_begin_occlusion_query(&it->engine.device, at->on, at->pass, query));
 }
 
 /* Draws, or executes a bundle, or nothing: now and then under a query, each of which a pass begins once. */
@@ -499,8 +498,8 @@ static void draw_some(page *it, const place *at, const thing *queries) {
         else if (!dice_one_in(&it->dice, 4))
             draw(it, at, query);
         if (query != NO_QUERY)
-            ENGINE_CALL(&it->engine, "endOcclusionQuery",
-                wethlorn_end_occlusion_query(&it->engine.device, at->on, at->pass, &it->engine.reply));
+            engine_recorded(&it->engine, "endOcclusionQuery",
+                wethlorn_end_occlusion_query(&it->engine.device, at->on, at->pass));
     }
 }
 
@@ -533,10 +532,10 @@ void page_render(page *it, recording *to) {
         return;
     }
     made->queries = queries ? queries->number : WETHLORN_NONE;
-    ENGINE_CALL(&it->engine, "beginRenderPass",
-        wethlorn_begin_render_pass(&it->engine.device, to->encoder, colors, of.colors, &depth, made->queries, WETHLORN_NONE,
-            &it->engine.reply));
-    place at = {.on = to->encoder, .pass = it->engine.reply.pass, .to = &of, .listed = made, .used = &used, .attached = chain_of(it, made)};
+    uint32_t begun;
+    engine_recorded(&it->engine, "beginRenderPass",
+        wethlorn_begin_render_pass(&it->engine.device, &to->encoder, colors, of.colors, &depth, made->queries, WETHLORN_NONE, &begun));
+    place at = {.on = &to->encoder, .pass = begun, .to = &of, .listed = made, .used = &used, .attached = chain_of(it, made)};
     draw_some(it, &at, queries);
     end(it, to, at.pass);
     commands_add(&to->commands, &(command){.name = WETHLORN_STEP_RENDER_PASS, .pass = made});

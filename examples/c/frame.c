@@ -16,7 +16,8 @@ typedef struct frame {
     uint64_t sampled_layout, shadow_layout, storage_layout, mips, scene, sum, nothing;
     uint64_t level0_group, levels_group, shadow_group, color_group, sums_group;
     uint64_t mip_pipeline, shadow_pipeline, scene_pipeline, sum_pipeline;
-    uint64_t encoder, commands;
+    wethlorn_encoder encoder;
+    uint64_t commands;
 } frame;
 
 /* Goes on after a call, which has to have been made. Gives the number of what it made or queued. An engine that finds no memory gives
@@ -138,29 +139,36 @@ static void upload(frame *it) {
     told(it, "writeTexture", wethlorn_write_texture(&it->device, &write, &it->reply));
 }
 
-/* Commands make no entry of the report: a finish answers for all of them. */
+/* Goes on after a command, which has to have been kept. It makes no entry of the report: a finish answers for all of them. */
+static void kept(const char *word, uint32_t status) {
+    if (status != WETHLORN_OK) {
+        fprintf(stderr, "%s: status %u\n", word, (unsigned)status);
+        exit(1);
+    }
+}
+
 static void set_pipeline(frame *it, uint32_t pass, uint64_t pipeline) {
-    told(it, "setPipeline", wethlorn_set_pipeline(&it->device, it->encoder, pass, pipeline, &it->reply));
+    kept("setPipeline", wethlorn_set_pipeline(&it->device, &it->encoder, pass, pipeline));
 }
 
 static void set_group(frame *it, uint32_t pass, uint32_t index, uint64_t bound) {
     uint32_t no_offsets = 0;
-    told(it, "setBindGroup", wethlorn_set_bind_group(&it->device, it->encoder, pass, index, bound, &no_offsets, 0, &it->reply));
+    kept("setBindGroup", wethlorn_set_bind_group(&it->device, &it->encoder, pass, index, bound, &no_offsets, 0));
 }
 
 static void draw_points(frame *it, uint32_t pass) {
-    told(it, "setVertexBuffer", wethlorn_set_vertex_buffer(&it->device, it->encoder, pass, 0, it->vertices, 0, WETHLORN_NONE, &it->reply));
-    told(it, "draw", wethlorn_draw(&it->device, it->encoder, pass, 6, 1, 0, 0, &it->reply));
+    kept("setVertexBuffer", wethlorn_set_vertex_buffer(&it->device, &it->encoder, pass, 0, it->vertices, 0, WETHLORN_NONE));
+    kept("draw", wethlorn_draw(&it->device, &it->encoder, pass, 6, 1, 0, 0));
 }
 
 static void end(frame *it, uint32_t pass) {
-    told(it, "end", wethlorn_end(&it->device, it->encoder, pass, &it->reply));
+    kept("end", wethlorn_end(&it->device, &it->encoder, pass));
 }
 
 static uint32_t begin(frame *it, wethlorn_color color, size_t colors, wethlorn_depth depth) {
-    told(it, "beginRenderPass", wethlorn_begin_render_pass(&it->device, it->encoder, &color, colors, &depth,
-        WETHLORN_NONE, WETHLORN_NONE, &it->reply));
-    return it->reply.pass;
+    uint32_t pass;
+    kept("beginRenderPass", wethlorn_begin_render_pass(&it->device, &it->encoder, &color, colors, &depth, WETHLORN_NONE, WETHLORN_NONE, &pass));
+    return pass;
 }
 
 static void record_mip(frame *it) {
@@ -172,7 +180,7 @@ static void record_mip(frame *it) {
     uint32_t pass = begin(it, level, 1, none);
     set_pipeline(it, pass, it->mip_pipeline);
     set_group(it, pass, 0, it->level0_group);
-    told(it, "draw", wethlorn_draw(&it->device, it->encoder, pass, 3, 1, 0, 0, &it->reply));
+    kept("draw", wethlorn_draw(&it->device, &it->encoder, pass, 3, 1, 0, 0));
     end(it, pass);
 }
 
@@ -198,23 +206,24 @@ static void record_scene(frame *it) {
 
 static void record_sum(frame *it) {
     wethlorn_buffer_copy copy = {.source = it->sums, .target = it->readback, .size = 256};
-    told(it, "beginComputePass", wethlorn_begin_compute_pass(&it->device, it->encoder, &it->reply));
-    uint32_t pass = it->reply.pass;
+    uint32_t pass;
+    kept("beginComputePass", wethlorn_begin_compute_pass(&it->device, &it->encoder, &pass));
     set_pipeline(it, pass, it->sum_pipeline);
     set_group(it, pass, 0, it->color_group);
     set_group(it, pass, 1, it->sums_group);
-    told(it, "dispatch", wethlorn_dispatch(&it->device, it->encoder, pass, 1, 1, 1, &it->reply));
+    kept("dispatch", wethlorn_dispatch(&it->device, &it->encoder, pass, 1, 1, 1));
     end(it, pass);
-    told(it, "copyBufferToBuffer", wethlorn_copy_buffer_to_buffer(&it->device, it->encoder, &copy, &it->reply));
+    kept("copyBufferToBuffer", wethlorn_copy_buffer_to_buffer(&it->device, &it->encoder, &copy));
 }
 
 static void draw_frame(frame *it) {
-    it->encoder = told(it, "createEncoder", wethlorn_create_encoder(&it->device, &it->reply));
+    told(it, "createEncoder", wethlorn_create_encoder(&it->device, &it->encoder, &it->reply));
     record_mip(it);
     record_shadow(it);
     record_scene(it);
     record_sum(it);
-    it->commands = told(it, "finish", wethlorn_finish(&it->device, it->encoder, &it->reply));
+    it->commands = told(it, "finish", wethlorn_finish(&it->device, &it->encoder, &it->reply));
+    kept("close", wethlorn_close_encoder(&it->encoder));
     uint64_t operation = told(it, "submit", wethlorn_submit(&it->device, &it->commands, 1, &it->reply));
     told(it, "mapAsync", wethlorn_map_async(&it->device, it->readback, WETHLORN_MAP_MODE_READ, 0, WETHLORN_NONE, &it->reply));
     told(it, "complete", wethlorn_complete(&it->device, operation, &it->reply));

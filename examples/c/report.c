@@ -143,8 +143,6 @@ static int put_settlements(FILE *out, wethlorn_device *device, uint64_t count) {
 int report_call(report *it, wethlorn_device *device, uint32_t who, const char *word, const wethlorn_reply *reply) {
     wethlorn_item item;
     uint32_t status;
-    if (reply->answer == WETHLORN_KEPT)
-        return wethlorn_next_item(device, &item) == WETHLORN_END && put_settlements(it->history, device, 0);
     if (reply->entry != it->entries++)
         return 0;
     fprintf(it->history, "%" PRIu64 " %" PRIu32 " %s ", reply->entry, who, word);

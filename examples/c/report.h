@@ -15,8 +15,8 @@ typedef struct report {
 /* Begins a report. False: no memory. */
 int report_begin(report *it);
 
-/* Writes the entry of a call, with the promises that it settles, and drains what it adds to the trace. `word` is the call's. A reply
- * of WETHLORN_KEPT is no entry, and nothing is written. False: what the device tells does not fit together. */
+/* Writes the entry of a call, with the promises that it settles, and drains what it adds to the trace. `word` is the call's. False: what
+ * the device tells does not fit together. */
 int report_call(report *it, wethlorn_device *device, uint32_t who, const char *word, const wethlorn_reply *reply);
 
 /* Ends a report, and gives its whole text, which the caller frees; null: no memory. */

@@ -149,7 +149,7 @@ static wethlorn_spot spot(player *p, const json_t *call) {
 #define N32(key, otherwise) ((uint32_t)number(call, key, otherwise))
 #define SIZE number(call, "size", WETHLORN_NONE)
 /* The encoder and the pass, or the encoder alone, that the call stands on. */
-#define ON DEVICE, on->number, on->pass
+#define ON DEVICE, on->encoder, on->pass
 #define OUT &p->reply
 
 static void open_device(player *p, const json_t *script, uint64_t serial) {
@@ -283,21 +283,26 @@ static void create_query_set(player *p, const json_t *call) {
     CALL(p, wethlorn_create_query_set(DEVICE, N32("count", 0), OUT));
 }
 
+/* The next encoder that will be open. */
+#define ENCODER &p->encoders[p->encoder_count]
+
 static void create_encoder(player *p, const json_t *call) {
     (void)call;
-    CALL(p, wethlorn_create_encoder(DEVICE, OUT));
+    CALL(p, wethlorn_create_encoder(DEVICE, ENCODER, OUT));
+    p->encoder_count++;
 }
 
 static void create_bundle_encoder(player *p, const json_t *call) {
     size_t count;
     wethlorn_bundle_desc desc = {N32("samples", 1), word(call, "depth", FORMATS, 0), flag(call, "depthReadOnly"), flag(call, "stencilReadOnly")};
     const uint32_t *colors = formats(call, "colors", &count);
-    CALL(p, wethlorn_create_bundle_encoder(DEVICE, &desc, colors, count, OUT));
+    CALL(p, wethlorn_create_bundle_encoder(DEVICE, &desc, colors, count, ENCODER, OUT));
+    p->encoder_count++;
 }
 
 static void finish(player *p, const json_t *call) {
-    uint64_t encoder = object(p, call, "on");
-    CALL(p, wethlorn_finish(DEVICE, encoder, OUT));
+    const named *on = meant(p, json_object_get(call, "on"));
+    CALL(p, wethlorn_finish(DEVICE, on->encoder, OUT));
 }
 
 static void submit(player *p, const json_t *call) {
@@ -394,9 +399,23 @@ static void current_texture(player *p, const json_t *call) {
     p->reply.number = canvas->number;
 }
 
+/* A command that came late is told to the device, which answers; of one that was kept there is no answer. */
+static void noted(player *p, const named *on) {
+    if (p->status == WETHLORN_LATE)
+        CALL(p, wethlorn_late(DEVICE, on->encoder, OUT));
+    else if (p->status == WETHLORN_OK && !p->names_dropped)
+        p->word = NULL;
+}
+
+#define RECORD(p, on, made) \
+    do {                    \
+        CALL(p, made);      \
+        noted(p, on);       \
+    } while (0)
+
 static void copy_buffer_to_buffer(player *p, const json_t *call, const named *on) {
     wethlorn_buffer_copy copy = {object(p, call, "source"), number(call, "sourceOffset", 0), object(p, call, "target"), number(call, "targetOffset", 0), SIZE};
-    CALL(p, wethlorn_copy_buffer_to_buffer(DEVICE, on->number, &copy, OUT));
+    RECORD(p, on, wethlorn_copy_buffer_to_buffer(DEVICE, on->encoder, &copy));
 }
 
 static wethlorn_texel_copy texel_copy(player *p, const json_t *call) {
@@ -405,33 +424,33 @@ static wethlorn_texel_copy texel_copy(player *p, const json_t *call) {
 
 static void copy_buffer_to_texture(player *p, const json_t *call, const named *on) {
     wethlorn_texel_copy copy = texel_copy(p, call);
-    CALL(p, wethlorn_copy_buffer_to_texture(DEVICE, on->number, &copy, OUT));
+    RECORD(p, on, wethlorn_copy_buffer_to_texture(DEVICE, on->encoder, &copy));
 }
 
 static void copy_texture_to_buffer(player *p, const json_t *call, const named *on) {
     wethlorn_texel_copy copy = texel_copy(p, call);
-    CALL(p, wethlorn_copy_texture_to_buffer(DEVICE, on->number, &copy, OUT));
+    RECORD(p, on, wethlorn_copy_texture_to_buffer(DEVICE, on->encoder, &copy));
 }
 
 static void copy_texture_to_texture(player *p, const json_t *call, const named *on) {
     wethlorn_texture_copy copy = {object(p, call, "source"), object(p, call, "target"), origin(call, "sourceOrigin"), origin(call, "targetOrigin"),
         N32("sourceMip", 0), N32("targetMip", 0), extent(call, "size")};
-    CALL(p, wethlorn_copy_texture_to_texture(DEVICE, on->number, &copy, OUT));
+    RECORD(p, on, wethlorn_copy_texture_to_texture(DEVICE, on->encoder, &copy));
 }
 
 static void clear_buffer(player *p, const json_t *call, const named *on) {
     uint64_t buffer = object(p, call, "buffer");
-    CALL(p, wethlorn_clear_buffer(DEVICE, on->number, buffer, number(call, "offset", 0), SIZE, OUT));
+    RECORD(p, on, wethlorn_clear_buffer(DEVICE, on->encoder, buffer, number(call, "offset", 0), SIZE));
 }
 
 static void resolve_query_set(player *p, const json_t *call, const named *on) {
     uint64_t queries = object(p, call, "queries"), buffer = object(p, call, "buffer");
-    CALL(p, wethlorn_resolve_query_set(DEVICE, on->number, queries, N32("first", 0), N32("count", 0), buffer, number(call, "offset", 0), OUT));
+    RECORD(p, on, wethlorn_resolve_query_set(DEVICE, on->encoder, queries, N32("first", 0), N32("count", 0), buffer, number(call, "offset", 0)));
 }
 
 static void begin_compute_pass(player *p, const json_t *call, const named *on) {
     (void)call;
-    CALL(p, wethlorn_begin_compute_pass(DEVICE, on->number, OUT));
+    RECORD(p, on, wethlorn_begin_compute_pass(DEVICE, on->encoder, &p->pass));
 }
 
 static void begin_render_pass(player *p, const json_t *call, const named *on) {
@@ -449,12 +468,12 @@ static void begin_render_pass(player *p, const json_t *call, const named *on) {
         colors[at].load = word(color, "load", LOADS, 0);
         colors[at].store = word(color, "store", STORES, 0);
     }
-    CALL(p, wethlorn_begin_render_pass(DEVICE, on->number, colors, count, &depth, queries, number(call, "maxDrawCount", WETHLORN_NONE), OUT));
+    RECORD(p, on, wethlorn_begin_render_pass(DEVICE, on->encoder, colors, count, &depth, queries, number(call, "maxDrawCount", WETHLORN_NONE), &p->pass));
 }
 
 static void set_pipeline(player *p, const json_t *call, const named *on) {
     uint64_t pipeline = object(p, call, "pipeline");
-    CALL(p, wethlorn_set_pipeline(ON, pipeline, OUT));
+    RECORD(p, on, wethlorn_set_pipeline(ON, pipeline));
 }
 
 static void set_bind_group(player *p, const json_t *call, const named *on) {
@@ -464,66 +483,66 @@ static void set_bind_group(player *p, const json_t *call, const named *on) {
     uint64_t group = object(p, call, "group");
     for (size_t at = 0; at < count; at++)
         offsets[at] = (uint32_t)json_integer_value(json_array_get(list, at));
-    CALL(p, wethlorn_set_bind_group(ON, N32("index", 0), group, offsets, count, OUT));
+    RECORD(p, on, wethlorn_set_bind_group(ON, N32("index", 0), group, offsets, count));
 }
 
 static void dispatch(player *p, const json_t *call, const named *on) {
-    CALL(p, wethlorn_dispatch(ON, N32("x", 0), N32("y", 1), N32("z", 1), OUT));
+    RECORD(p, on, wethlorn_dispatch(ON, N32("x", 0), N32("y", 1), N32("z", 1)));
 }
 
 static void set_vertex_buffer(player *p, const json_t *call, const named *on) {
     uint64_t buffer = object(p, call, "buffer");
-    CALL(p, wethlorn_set_vertex_buffer(ON, N32("slot", 0), buffer, number(call, "offset", 0), SIZE, OUT));
+    RECORD(p, on, wethlorn_set_vertex_buffer(ON, N32("slot", 0), buffer, number(call, "offset", 0), SIZE));
 }
 
 static void set_index_buffer(player *p, const json_t *call, const named *on) {
     uint64_t buffer = object(p, call, "buffer");
-    CALL(p, wethlorn_set_index_buffer(ON, buffer, word(call, "format", INDEXES, 0), number(call, "offset", 0), SIZE, OUT));
+    RECORD(p, on, wethlorn_set_index_buffer(ON, buffer, word(call, "format", INDEXES, 0), number(call, "offset", 0), SIZE));
 }
 
 static void draw(player *p, const json_t *call, const named *on) {
-    CALL(p, wethlorn_draw(ON, N32("vertices", 0), N32("instances", 1), N32("firstVertex", 0), N32("firstInstance", 0), OUT));
+    RECORD(p, on, wethlorn_draw(ON, N32("vertices", 0), N32("instances", 1), N32("firstVertex", 0), N32("firstInstance", 0)));
 }
 
 static void draw_indexed(player *p, const json_t *call, const named *on) {
-    CALL(p, wethlorn_draw_indexed(ON, N32("indices", 0), N32("instances", 1), N32("firstIndex", 0), N32("firstInstance", 0), OUT));
+    RECORD(p, on, wethlorn_draw_indexed(ON, N32("indices", 0), N32("instances", 1), N32("firstIndex", 0), N32("firstInstance", 0)));
 }
 
 static void set_viewport(player *p, const json_t *call, const named *on) {
     wethlorn_viewport viewport = {number(call, "x", 0), number(call, "y", 0), number(call, "width", 0), number(call, "height", 0),
         number(call, "minDepth", 0), number(call, "maxDepth", WETHLORN_FIXED_ONE), flag(call, "left"), flag(call, "above")};
-    CALL(p, wethlorn_set_viewport(ON, &viewport, OUT));
+    RECORD(p, on, wethlorn_set_viewport(ON, &viewport));
 }
 
 static void set_scissor_rect(player *p, const json_t *call, const named *on) {
-    CALL(p, wethlorn_set_scissor_rect(ON, N32("x", 0), N32("y", 0), N32("width", 0), N32("height", 0), OUT));
+    RECORD(p, on, wethlorn_set_scissor_rect(ON, N32("x", 0), N32("y", 0), N32("width", 0), N32("height", 0)));
 }
 
 /* The calls that read their counts from a buffer. */
 #define INDIRECT(name, function)                                                \
     static void name(player *p, const json_t *call, const named *on) {          \
         uint64_t buffer = object(p, call, "buffer");                            \
-        CALL(p, function(ON, buffer, number(call, "offset", 0), OUT));          \
+        RECORD(p, on, function(ON, buffer, number(call, "offset", 0)));          \
     }
 INDIRECT(dispatch_indirect, wethlorn_dispatch_indirect)
 INDIRECT(draw_indirect, wethlorn_draw_indirect)
 INDIRECT(draw_indexed_indirect, wethlorn_draw_indexed_indirect)
 
 static void begin_occlusion_query(player *p, const json_t *call, const named *on) {
-    CALL(p, wethlorn_begin_occlusion_query(ON, N32("index", 0), OUT));
+    RECORD(p, on, wethlorn_begin_occlusion_query(ON, N32("index", 0)));
 }
 
 static void execute_bundles(player *p, const json_t *call, const named *on) {
     size_t count;
     const uint64_t *bundles = objects(p, call, "bundles", &count);
-    CALL(p, wethlorn_execute_bundles(ON, bundles, count, OUT));
+    RECORD(p, on, wethlorn_execute_bundles(ON, bundles, count));
 }
 
 /* The calls that have no key but what they stand on, or that one at which no rule looks. */
 #define BARE(name, function)                                                    \
     static void name(player *p, const json_t *call, const named *on) {          \
         (void)call;                                                             \
-        CALL(p, function(ON, OUT));                                             \
+        RECORD(p, on, function(ON));                                             \
     }
 BARE(end, wethlorn_end)
 BARE(end_occlusion_query, wethlorn_end_occlusion_query)
@@ -587,9 +606,12 @@ static void give_name(player *p, const char *word, const json_t *call) {
     const named *on = meant(p, json_object_get(call, "on"));
     named it = {.number = p->reply.number, .pass = WETHLORN_ON_ENCODER, .width = N32("width", 0), .height = N32("height", 0)};
     it.is_canvas = !strcmp(word, "createCanvas");
+    if (!strcmp(word, "createEncoder") || !strcmp(word, "createBundleEncoder"))
+        it.encoder = &p->encoders[p->encoder_count - 1];
     if (!strcmp(word, "beginComputePass") || !strcmp(word, "beginRenderPass")) {
         it.number = on->number;
-        it.pass = p->reply.pass;
+        it.encoder = on->encoder;
+        it.pass = p->pass;
     }
     json_object_set_new(p->names, json_string_value(json_object_get(call, "as")), json_integer((json_int_t)p->count));
     p->all[p->count++] = it;

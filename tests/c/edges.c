@@ -65,17 +65,21 @@ static uint64_t depth_view(played *it) {
 static void draw(played *it, const lists *of, uint64_t group) {
     wethlorn_depth depth = WETHLORN_DEPTH_INIT;
     wethlorn_device *device = &it->device;
+    wethlorn_reply reply;
     depth.view = depth_view(it);
     depth.depth_load = WETHLORN_LOAD;
     depth.depth_store = WETHLORN_STORE;
-    uint64_t encoder = given(it, wethlorn_create_encoder(device, next(it)), "createCommandEncoder");
-    given(
-        it, wethlorn_begin_render_pass(device, encoder, of->colors, 0, &depth, WETHLORN_NONE, WETHLORN_NONE, next(it)),
-        "beginRenderPass");
-    given(it, wethlorn_set_bind_group(device, encoder, 0, 0, group, of->numbers, 0, next(it)), "setBindGroup");
-    given(it, wethlorn_execute_bundles(device, encoder, 0, of->objects, 0, next(it)), "executeBundles");
-    given(it, wethlorn_end(device, encoder, 0, next(it)), "end");
-    uint64_t commands = given(it, wethlorn_finish(device, encoder, next(it)), "finish");
+    wethlorn_encoder encoder = WETHLORN_ENCODER_INIT;
+    uint32_t pass = 1;
+    given(it, wethlorn_create_encoder(device, &encoder, next(it)), "createCommandEncoder");
+    check(wethlorn_create_encoder(device, &encoder, &reply) == WETHLORN_IS_OPEN, "an encoder is made over one that is open");
+    check(wethlorn_begin_render_pass(device, &encoder, of->colors, 0, &depth, WETHLORN_NONE, WETHLORN_NONE, &pass) == WETHLORN_OK && !pass, "beginRenderPass");
+    check(wethlorn_set_bind_group(device, &encoder, pass, 0, group, of->numbers, 0) == WETHLORN_OK, "setBindGroup");
+    check(wethlorn_execute_bundles(device, &encoder, pass, of->objects, 0) == WETHLORN_OK, "executeBundles");
+    check(wethlorn_end(device, &encoder, pass) == WETHLORN_OK, "end");
+    uint64_t commands = given(it, wethlorn_finish(device, &encoder, next(it)), "finish");
+    check(wethlorn_close_encoder(&encoder) == WETHLORN_OK, "close of an encoder");
+    check(wethlorn_end(device, &encoder, pass) == WETHLORN_CLOSED && wethlorn_finish(device, &encoder, &reply) == WETHLORN_CLOSED, "a closed encoder is used");
     given(it, wethlorn_submit(device, &commands, 1, next(it)), "submit");
 }
 
@@ -83,6 +87,7 @@ static void draw(played *it, const lists *of, uint64_t group) {
 static void play_empty(played *it, const lists *of) {
     wethlorn_render_desc pipeline = WETHLORN_RENDER_DESC_INIT;
     wethlorn_bundle_desc bundle = WETHLORN_BUNDLE_DESC_INIT;
+    wethlorn_encoder encoder = WETHLORN_ENCODER_INIT;
     wethlorn_device *device = &it->device;
     wethlorn_bad_limit bad;
     memset(it, 0, sizeof *it);
@@ -95,7 +100,8 @@ static void play_empty(played *it, const lists *of) {
     given(it,
         wethlorn_create_render_pipeline(device, &pipeline, of->iface, 0, of->buffers, 0, of->attributes, 0, of->numbers, 0, next(it)),
         "createRenderPipeline");
-    given(it, wethlorn_create_bundle_encoder(device, &bundle, of->numbers, 0, next(it)), "createRenderBundleEncoder");
+    given(it, wethlorn_create_bundle_encoder(device, &bundle, of->numbers, 0, &encoder, next(it)), "createRenderBundleEncoder");
+    check(wethlorn_close_encoder(&encoder) == WETHLORN_OK, "close of a bundle encoder");
     draw(it, of, group);
     given(it, wethlorn_submit(device, of->objects, 0, next(it)), "submit of none");
 }

@@ -35,7 +35,8 @@ NAMES_DROPPED = 4
 SECONDS = 600
 # Each allocation is refused on these, and valgrind plays them: a whole frame, a bundle with queries, and callers that race.
 CLOSELY = ["examples/realistic-frame", "tests/cases/bundles/bundle-and-occlusion-queries", "examples/submit-races-destroy"]
-CALLS_OF_THREADS = 40_000
+# So many calls are rounds of 17, of which each makes three objects, one of them a buffer, and records eight clears.
+CALLS_OF_THREADS = 40_800
 # The sources of the engine with a software driver, how many frames it runs, and what its driver can be told to leave out.
 ENGINE = sorted(EXAMPLES.glob("engine*.c"))
 FRAMES = 1000
@@ -146,9 +147,9 @@ def test_frame(program):
 
 
 def test_threads(program):
-    rounds = CALLS_OF_THREADS // 40
+    rounds = CALLS_OF_THREADS // 17
     status, text = run([program, CALLS_OF_THREADS])
-    expected = f"threads 8 calls {CALLS_OF_THREADS} objects {8 * rounds} steps {8 * rounds} releases {8 * rounds}\n"
+    expected = f"threads 8 calls {CALLS_OF_THREADS} objects {3 * rounds} steps {8 * rounds} releases {rounds}\n"
     check(status == 0 and text.decode() == expected, f"{program.name}: status {status}, {text.decode()}")
 
 

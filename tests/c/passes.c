@@ -3,9 +3,8 @@
 #include <wethlorn.h>
 #include <inttypes.h>
 #include <stdio.h>
-#include <string.h>
 
-enum { SIDE = 4, UNTOUCHED = 0xA5 };
+enum { SIDE = 4 };
 #define TEXELS(count) ((count)*WETHLORN_FIXED_ONE)
 /* How far from its attachments a viewport of a device of default limits may begin. */
 #define FARTHEST TEXELS(2 * WETHLORN_DEFAULT_MAX_TEXTURE_DIMENSION_2D)
@@ -13,7 +12,8 @@ enum { SIDE = 4, UNTOUCHED = 0xA5 };
 /* A render pass that is open on an encoder, with a depth of SIDE texels a side, and a pipeline that draws to it. */
 typedef struct begun {
     wethlorn_device device;
-    uint64_t encoder, pipeline;
+    wethlorn_encoder encoder;
+    uint64_t pipeline;
     uint32_t pass;
 } begun;
 
@@ -35,6 +35,10 @@ static void check_rule(uint32_t found, uint32_t wanted, const char *what) {
 static uint64_t given(uint32_t status, const wethlorn_reply *reply, const char *what) {
     check(status == WETHLORN_OK && !reply->fault, what);
     return reply->number;
+}
+
+static void kept(uint32_t status, const char *what) {
+    check(status == WETHLORN_OK, what);
 }
 
 static void open_device(wethlorn_device *device) {
@@ -66,7 +70,7 @@ static uint64_t depth_pipeline(wethlorn_device *device) {
 }
 
 static begun begin(uint64_t max_draws) {
-    begun it = {WETHLORN_DEVICE_INIT, 0, 0, 0};
+    begun it = {WETHLORN_DEVICE_INIT, WETHLORN_ENCODER_INIT, 0, 0};
     wethlorn_depth depth = WETHLORN_DEPTH_INIT;
     wethlorn_reply reply;
     open_device(&it.device);
@@ -74,10 +78,8 @@ static begun begin(uint64_t max_draws) {
     depth.depth_load = WETHLORN_CLEAR;
     depth.depth_store = WETHLORN_STORE;
     it.pipeline = depth_pipeline(&it.device);
-    it.encoder = given(wethlorn_create_encoder(&it.device, &reply), &reply, "createCommandEncoder");
-    given(
-        wethlorn_begin_render_pass(&it.device, it.encoder, NULL, 0, &depth, WETHLORN_NONE, max_draws, &reply), &reply, "beginRenderPass");
-    it.pass = reply.pass;
+    given(wethlorn_create_encoder(&it.device, &it.encoder, &reply), &reply, "createCommandEncoder");
+    kept(wethlorn_begin_render_pass(&it.device, &it.encoder, NULL, 0, &depth, WETHLORN_NONE, max_draws, &it.pass), "beginRenderPass");
     return it;
 }
 
@@ -85,8 +87,9 @@ static begun begin(uint64_t max_draws) {
 static uint32_t rule_at_end(begun *it) {
     wethlorn_reply reply = {0};
     wethlorn_left left;
-    given(wethlorn_end(&it->device, it->encoder, it->pass, &reply), &reply, "end");
-    check(wethlorn_finish(&it->device, it->encoder, &reply) == WETHLORN_OK, "finish");
+    kept(wethlorn_end(&it->device, &it->encoder, it->pass), "end");
+    check(wethlorn_finish(&it->device, &it->encoder, &reply) == WETHLORN_OK, "finish");
+    check(wethlorn_close_encoder(&it->encoder) == WETHLORN_OK, "close of an encoder");
     check(wethlorn_close(&it->device, &left) == WETHLORN_OK, "close");
     return reply.rule;
 }
@@ -94,8 +97,7 @@ static uint32_t rule_at_end(begun *it) {
 /* Sets a viewport. Gives the rule that the finish tells. */
 static uint32_t rule_of_viewport(wethlorn_viewport viewport) {
     begun it = begin(WETHLORN_NONE);
-    wethlorn_reply reply;
-    given(wethlorn_set_viewport(&it.device, it.encoder, it.pass, &viewport, &reply), &reply, "setViewport");
+    kept(wethlorn_set_viewport(&it.device, &it.encoder, it.pass, &viewport), "setViewport");
     return rule_at_end(&it);
 }
 
@@ -131,25 +133,20 @@ static void try_viewports(void) {
 static void try_flags(void) {
     begun it = begin(WETHLORN_NONE);
     wethlorn_viewport viewport = WETHLORN_VIEWPORT_INIT;
-    wethlorn_reply reply, untouched;
-    memset(&untouched, UNTOUCHED, sizeof untouched);
-    reply = untouched;
     viewport.width = UINT64_MAX;
     viewport.left = 2;
-    check(wethlorn_set_viewport(&it.device, it.encoder, it.pass, &viewport, &reply) == WETHLORN_BAD_VALUE, "a flag of 2 is taken");
+    check(wethlorn_set_viewport(&it.device, &it.encoder, it.pass, &viewport) == WETHLORN_BAD_VALUE, "a flag of 2 is taken");
     viewport.left = 0;
     viewport.above = UINT32_MAX;
-    check(wethlorn_set_viewport(&it.device, it.encoder, it.pass, &viewport, &reply) == WETHLORN_BAD_VALUE, "a flag of all ones is taken");
+    check(wethlorn_set_viewport(&it.device, &it.encoder, it.pass, &viewport) == WETHLORN_BAD_VALUE, "a flag of all ones is taken");
     viewport.above = 1;
-    check(wethlorn_set_viewport(&it.device, it.encoder, 7, &viewport, &reply) == WETHLORN_NO_PASS, "a pass that was not begun is set a viewport");
-    check(!memcmp(&reply, &untouched, sizeof reply), "a reply is written that is none");
+    check(wethlorn_set_viewport(&it.device, &it.encoder, 7, &viewport) == WETHLORN_NO_PASS, "a pass that was not begun is set a viewport");
     check_rule(rule_at_end(&it), 0, "what was refused is recorded");
 }
 
 static uint32_t rule_of_scissor(uint32_t x, uint32_t y, uint32_t width, uint32_t height) {
     begun it = begin(WETHLORN_NONE);
-    wethlorn_reply reply;
-    given(wethlorn_set_scissor_rect(&it.device, it.encoder, it.pass, x, y, width, height, &reply), &reply, "setScissorRect");
+    kept(wethlorn_set_scissor_rect(&it.device, &it.encoder, it.pass, x, y, width, height), "setScissorRect");
     return rule_at_end(&it);
 }
 
@@ -164,17 +161,15 @@ static void try_scissors(void) {
 static uint32_t rule_of_group(uint32_t index, size_t offsets_count) {
     static const uint32_t offsets[] = {0};
     begun it = begin(WETHLORN_NONE);
-    wethlorn_reply reply;
-    uint32_t status = wethlorn_set_bind_group(&it.device, it.encoder, it.pass, index, WETHLORN_NONE, offsets, offsets_count, &reply);
-    given(status, &reply, "setBindGroup");
+    uint32_t status = wethlorn_set_bind_group(&it.device, &it.encoder, it.pass, index, WETHLORN_NONE, offsets, offsets_count);
+    kept(status, "setBindGroup");
     return rule_at_end(&it);
 }
 
 static uint32_t rule_of_buffer(uint32_t slot, uint64_t offset, uint64_t size) {
     begun it = begin(WETHLORN_NONE);
-    wethlorn_reply reply;
-    uint32_t status = wethlorn_set_vertex_buffer(&it.device, it.encoder, it.pass, slot, WETHLORN_NONE, offset, size, &reply);
-    given(status, &reply, "setVertexBuffer");
+    uint32_t status = wethlorn_set_vertex_buffer(&it.device, &it.encoder, it.pass, slot, WETHLORN_NONE, offset, size);
+    kept(status, "setVertexBuffer");
     return rule_at_end(&it);
 }
 
@@ -206,10 +201,9 @@ static void try_null(void) {
 /* The rule of a pass that may draw `most` times, and draws so often. */
 static uint32_t rule_of_draws(uint64_t most, int count) {
     begun it = begin(most);
-    wethlorn_reply reply;
-    given(wethlorn_set_pipeline(&it.device, it.encoder, it.pass, it.pipeline, &reply), &reply, "setPipeline");
+    kept(wethlorn_set_pipeline(&it.device, &it.encoder, it.pass, it.pipeline), "setPipeline");
     for (int draw = 0; draw < count; draw++)
-        given(wethlorn_draw(&it.device, it.encoder, it.pass, 0, 1, 0, 0, &reply), &reply, "draw");
+        kept(wethlorn_draw(&it.device, &it.encoder, it.pass, 0, 1, 0, 0), "draw");
     return rule_at_end(&it);
 }
 
@@ -226,20 +220,24 @@ static void try_unread(void) {
     begun it = begin(WETHLORN_NONE);
     wethlorn_device *device = &it.device;
     wethlorn_reply reply;
-    given(wethlorn_set_blend_constant(device, it.encoder, it.pass, &reply), &reply, "setBlendConstant");
-    given(wethlorn_set_stencil_reference(device, it.encoder, it.pass, &reply), &reply, "setStencilReference");
-    given(wethlorn_insert_debug_marker(device, it.encoder, it.pass, &reply), &reply, "insertDebugMarker");
-    given(wethlorn_end(device, it.encoder, it.pass, &reply), &reply, "end");
-    given(wethlorn_insert_debug_marker(device, it.encoder, WETHLORN_ON_ENCODER, &reply), &reply, "insertDebugMarker of an encoder");
-    check(wethlorn_set_blend_constant(device, it.encoder, it.pass, &reply) == WETHLORN_OK, "a late setBlendConstant");
+    kept(wethlorn_set_blend_constant(device, &it.encoder, it.pass), "setBlendConstant");
+    kept(wethlorn_set_stencil_reference(device, &it.encoder, it.pass), "setStencilReference");
+    kept(wethlorn_insert_debug_marker(device, &it.encoder, it.pass), "insertDebugMarker");
+    kept(wethlorn_end(device, &it.encoder, it.pass), "end");
+    kept(wethlorn_insert_debug_marker(device, &it.encoder, WETHLORN_ON_ENCODER), "insertDebugMarker of an encoder");
+    check(wethlorn_set_blend_constant(device, &it.encoder, it.pass) == WETHLORN_LATE, "a late setBlendConstant");
+    check(wethlorn_late(device, &it.encoder, &reply) == WETHLORN_OK, "a late setBlendConstant");
     check_rule(reply.rule, 14, "a late setBlendConstant");
-    check(wethlorn_finish(device, it.encoder, &reply) == WETHLORN_OK, "finish");
+    check(wethlorn_finish(device, &it.encoder, &reply) == WETHLORN_OK, "finish");
     check_rule(reply.rule, 0, "what no rule looks at");
-    check(wethlorn_insert_debug_marker(device, it.encoder, WETHLORN_ON_ENCODER, &reply) == WETHLORN_OK, "a late insertDebugMarker");
+    check(wethlorn_insert_debug_marker(device, &it.encoder, WETHLORN_ON_ENCODER) == WETHLORN_LATE, "a late insertDebugMarker");
+    check(wethlorn_late(device, &it.encoder, &reply) == WETHLORN_OK, "a late insertDebugMarker");
     check_rule(reply.rule, 14, "a late insertDebugMarker");
     wethlorn_left left;
     check(wethlorn_close(device, &left) == WETHLORN_OK, "close");
-    check(wethlorn_set_stencil_reference(device, it.encoder, it.pass, &reply) == WETHLORN_CLOSED, "a closed device");
+    check(wethlorn_set_stencil_reference(device, &it.encoder, it.pass) == WETHLORN_CLOSED, "a closed device");
+    check(wethlorn_close_encoder(&it.encoder) == WETHLORN_OK && !it.encoder.inside, "close of an encoder");
+    check(wethlorn_close_encoder(&it.encoder) == WETHLORN_CLOSED, "a closed encoder");
 }
 
 int main(void) {

@@ -60,8 +60,7 @@ static int play_turn(play *it, size_t lane) {
             continue;
         if (!report_call(&it->player.report, &p->device, (uint32_t)lane, p->word, &p->reply))
             p->wrong = "what is told of a call does not fit together";
-        if (p->reply.answer != WETHLORN_KEPT)
-            return 1;
+        return 1;
     }
     return 0;
 }
@@ -107,6 +106,7 @@ static char *played(play *it, const json_t *script, const char *report) {
     it->script = script;
     p->names = json_object();
     p->all = calloc(count_calls(script) + 1, sizeof *p->all);
+    p->encoders = calloc(count_calls(script) + 1, sizeof *p->encoders);
     if (!report_begin(&p->report))
         p->wrong = "no memory for the report";
     play_open(p, script, ++serial);
@@ -117,8 +117,12 @@ static char *played(play *it, const json_t *script, const char *report) {
         p->wrong = "the device is not closed";
     if (!p->wrong && (left.items || left.settlements))
         p->wrong = "something is left of a device that was drained";
+    for (size_t at = 0; at < p->encoder_count; at++)
+        if (p->encoders[at].inside && (wethlorn_close_encoder(&p->encoders[at]) != WETHLORN_OK || p->encoders[at].inside))
+            p->wrong = "an encoder is not closed";
     json_decref(p->names);
     free(p->all);
+    free(p->encoders);
     text = report_end(&p->report);
     if (!p->wrong)
         return text;

@@ -7,6 +7,7 @@
 /* What a name of the script stands for: an object, a pass of an encoder, or a canvas. */
 typedef struct named {
     uint64_t number;        /* of the object, of the encoder of a pass, or of a canvas's current texture */
+    wethlorn_encoder *encoder; /* of an encoder, or of a pass its encoder's; else null */
     uint32_t pass;          /* WETHLORN_ON_ENCODER where it is no pass */
     uint32_t width, height; /* of a canvas */
     uint32_t format, usage;
@@ -23,6 +24,9 @@ typedef struct player {
     json_t *names;      /* from each name to its place in `all` */
     named *all;
     size_t count;
+    wethlorn_encoder *encoders; /* as many as calls were made may be open */
+    size_t encoder_count;
+    uint32_t pass;      /* which the call has begun, if it begins one */
     uint64_t again;     /* how many calls found no memory, and were made again */
     const char *wrong;  /* what is wrong, or null */
     int names_dropped;  /* a call names what was dropped, which C answers by a status and a script by a fault */

@@ -1,20 +1,21 @@
 -- What the desk has done, as what lies behind a device shows it.
-use Rattle.std.proofs.Common.{◌≡◌, ℕ, ◌+◌, ◌-◌, ◌≤◌, ◌<◌, List, [], ◌∷◌, ◌++◌, Bool, true, false, Option, Some, drop, length, refl, ap, sym, ◌∙◌, subst, append-nil, length-append, length-drop, arith}
-use Rattle.std.specs.Prelude.{MatchBool, IsSomeAnd, slice_get}
-use Rattle.wg_types.specs.declared.commands.CommandOf.{CommandOf}
-use Rattle.wg_types.specs.declared.commands.On.{On}
+use Rattle.std.proofs.Common.{◌≡◌, ℕ, ◌+◌, ◌-◌, ◌≤◌, ◌<◌, List, [], ◌∷◌, ◌++◌, Option, Some, None, drop, length, refl, ap, sym, ◌∙◌, subst, append-nil, length-append, length-drop, arith}
+use Rattle.std.specs.Prelude.{IsSomeAnd, slice_get, option_to_list}
+use Rattle.wg_types.specs.declared.handles.ObjRef.{ObjRef}
 use Rattle.wg_trace.specs.declared.replies.Reply.{Reply}
 use Rattle.wg_types.specs.declared.requests.RequestOf.{RequestOf}
-use Rattle.wg_types.specs.Commands.{map_refs as map_command}
 use Rattle.wg_orders.specs.Trace.{Item}
 use Rattle.wg_history.specs.declared.events.Setup.{Setup}
+use Rattle.wg_encoder.specs.Recorders.{RecorderValue}
 use Rattle.wg_history.specs.declared.events.Event.{Event}
+use Rattle.wg_history.specs.declared.events.Event.TheVariants.{Late}
 use Rattle.wg_history.specs.Entries.{Entry}
 use Rattle.wg_history.specs.Traces.{Trace}
 use Rattle.wg_history.specs.ReleaseLaws.{Grows}
 use Rattle.wg_history.proofs.Growing.{releases_so_far}
-use Rattle.wg_desk.specs.Desks.{DeskValue, HasSent, HandsOutGrowth, IsNumber}
-use Rattle.wg_desk.specs.Seats.{found_at, is_late_at, recorded_at}
+use Rattle.wg_calls.specs.Calls.{finish_of, known_of_finish}
+use Rattle.wg_desk.specs.Desks.{DeskValue, encoder_on, HasSent, HandsOutGrowth, IsNumber}
+use Rattle.wg_desk.specs.Seats.{seat_made}
 use Rattle.wg_desk.specs.Sent.{event_sent, seats_after}
 use Rattle.wg_told.specs.declared.replies.ToldReply.{ToldReply}
 use Rattle.wg_told.specs.declared.drains.ToldCounts.{ToldCounts}
@@ -22,9 +23,9 @@ use Rattle.wg_told.specs.declared.items.ToldItem.{ToldItem}
 use Rattle.wg_told.specs.declared.items.ToldUse.{ToldUse}
 use Rattle.wg_told.specs.declared.items.ToldAccess.{ToldAccess}
 use Rattle.wg_told.specs.Drains.{items_told, uses_told, accesses_told, counts_told, fitting, over, room_in}
-use Rattle.wg_told.specs.Replies.{reply_told, kept_told}
+use Rattle.wg_told.specs.Replies.{reply_told}
 use Rattle.wg_c.specs.declared.inner.Drained.TheVariants.{Told, Wants}
-use Rattle.wg_c.specs.Inners.{InnerValue, AreWaiting, answer_to, HasDone, HasAsked, HasComeLate, HasKept, HasRecorded, Sheets, told_over, HasDrained, late_event, pass_number}
+use Rattle.wg_c.specs.Inners.{InnerValue, AreWaiting, answer_to, HasDone, HasAsked, HasComeLate, HasFinished, Sheets, told_over, HasDrained}
 
 -- an event that was sent
 done_by : (old new : InnerValue) (event : Event) (reply : Reply)
@@ -56,31 +57,59 @@ asked_by old new request reply out setup sent number grown seats still settled o
       out_is = subst (λ (r : Reply). out ≡ reply_told r (length old.desk.history) 0) e out_is;
     }
 
-pub came_late : (old new : InnerValue) (encoder : ℕ) (on : On) (command : CommandOf ℕ) (reply : Reply) (out : ToldReply)
-    → true ≡ is_late_at old.desk.seats encoder on
-    → new.desk.setup ≡ old.desk.setup → HasSent old.desk new.desk 0 (late_event old encoder) reply
-    → HandsOutGrowth old.desk new.desk old.items new.items → new.desk.seats ≡ old.desk.seats
-    → new.told ≡ old.told → new.settled ≡ old.settled ++ reply.settled
-    → out ≡ reply_told reply (length old.desk.history) (pass_number old encoder command)
-    → HasRecorded old new encoder on command out
-came_late old new encoder on command reply out late setup sent grown seats still settled out_is =
-    let e : reply ≡ answer_to old (late_event old encoder) = sent.replied in
-    let h : HasComeLate old new encoder command out = record {
-      done = done_by old new (late_event old encoder) reply setup sent grown still settled;
-      seats = seats;
-      out_is = subst (λ (r : Reply). out ≡ reply_told r (length old.desk.history) (pass_number old encoder command)) e out_is;
-    } in
-    subst (λ (b : Bool). MatchBool b (HasComeLate old new encoder command out) (HasKept old new encoder on command out)) late h
+-- of what is there, by what it is
+some_by : {A : Type 0} (found : Option A) (P Q : A → Type 0) → ((a : A) → P a → Q a) → IsSomeAnd found P → IsSomeAnd found Q
+some_by None P Q then held = held
+some_by (Some a) P Q then held = then a held
 
-pub was_kept : (old new : InnerValue) (encoder : ℕ) (on : On) (command : CommandOf ℕ) (out : ToldReply)
-    → false ≡ is_late_at old.desk.seats encoder on
-    → new.desk.setup ≡ old.desk.setup → new.desk.history ≡ old.desk.history
-    → new.desk.seats ≡ recorded_at old.desk.seats encoder on (map_command (found_at old.desk.seats) command)
-    → new.items ≡ old.items → new.told ≡ old.told → new.settled ≡ old.settled → out ≡ kept_told (pass_number old encoder command)
-    → HasRecorded old new encoder on command out
-was_kept old new encoder on command out late setup history seats items still settled out_is =
-    let h : HasKept old new encoder on command out = record { setup = setup; history = history; seats = seats; items = items; still = still; settled = settled; out_is = out_is } in
-    subst (λ (b : Bool). MatchBool b (HasComeLate old new encoder command out) (HasKept old new encoder on command out)) late h
+late_by : (old new : InnerValue) (encoder : ObjRef) (reply : Reply) (out : ToldReply)
+    → new.desk.setup ≡ old.desk.setup → HandsOutGrowth old.desk new.desk old.items new.items → new.desk.seats ≡ old.desk.seats
+    → new.told ≡ old.told → new.settled ≡ old.settled ++ reply.settled → out ≡ reply_told reply (length old.desk.history) 0
+    → HasSent old.desk new.desk 0 (Late encoder) reply → HasComeLate old new encoder out
+late_by old new encoder reply out setup grown seats still settled out_is sent =
+    let e : reply ≡ answer_to old (Late encoder) = sent.replied in
+    record {
+      done = done_by old new (Late encoder) reply setup sent grown still settled;
+      seats = seats;
+      out_is = subst (λ (r : Reply). out ≡ reply_told r (length old.desk.history) 0) e out_is;
+    }
+
+pub came_late : (old new : InnerValue) (recorder : RecorderValue) (reply : Reply) (out : ToldReply)
+    → new.desk.setup ≡ old.desk.setup
+    → IsSomeAnd (encoder_on old.desk recorder) (λ encoder. HasSent old.desk new.desk 0 (Late encoder) reply)
+    → HandsOutGrowth old.desk new.desk old.items new.items → new.desk.seats ≡ old.desk.seats
+    → new.told ≡ old.told → new.settled ≡ old.settled ++ reply.settled → out ≡ reply_told reply (length old.desk.history) 0
+    → IsSomeAnd (encoder_on old.desk recorder) (λ encoder. HasComeLate old new encoder out)
+came_late old new recorder reply out setup sent grown seats still settled out_is =
+    some_by (encoder_on old.desk recorder) (λ encoder. HasSent old.desk new.desk 0 (Late encoder) reply) (λ encoder. HasComeLate old new encoder out)
+    (λ encoder. late_by old new encoder reply out setup grown seats still settled out_is) sent
+
+ended_by : (old new : InnerValue) (recorder : RecorderValue) (encoder : ObjRef) (reply : Reply) (out : ToldReply)
+    → new.desk.setup ≡ old.desk.setup → HandsOutGrowth old.desk new.desk old.items new.items
+    → new.desk.seats ≡ old.desk.seats ++ option_to_list (seat_made old.desk.setup (Some (known_of_finish recorder)) reply.answer)
+    → IsNumber reply.answer (length old.desk.seats)
+    → new.told ≡ old.told → new.settled ≡ old.settled ++ reply.settled → out ≡ reply_told reply (length old.desk.history) 0
+    → HasSent old.desk new.desk 0 (finish_of encoder recorder) reply → HasFinished old new recorder encoder out
+ended_by old new recorder encoder reply out setup grown seats number still settled out_is sent =
+    let e : reply ≡ answer_to old (finish_of encoder recorder) = sent.replied in
+    record {
+      done = done_by old new (finish_of encoder recorder) reply setup sent grown still settled;
+      seats = subst (λ (r : Reply). new.desk.seats ≡ old.desk.seats ++ option_to_list (seat_made old.desk.setup (Some (known_of_finish recorder)) r.answer)) e seats;
+      number = subst (λ (r : Reply). IsNumber r.answer (length old.desk.seats)) e number;
+      out_is = subst (λ (r : Reply). out ≡ reply_told r (length old.desk.history) 0) e out_is;
+    }
+
+pub finished_by : (old new : InnerValue) (recorder : RecorderValue) (reply : Reply) (out : ToldReply)
+    → new.desk.setup ≡ old.desk.setup
+    → IsSomeAnd (encoder_on old.desk recorder) (λ encoder. HasSent old.desk new.desk 0 (finish_of encoder recorder) reply)
+    → HandsOutGrowth old.desk new.desk old.items new.items
+    → new.desk.seats ≡ old.desk.seats ++ option_to_list (seat_made old.desk.setup (Some (known_of_finish recorder)) reply.answer)
+    → IsNumber reply.answer (length old.desk.seats)
+    → new.told ≡ old.told → new.settled ≡ old.settled ++ reply.settled → out ≡ reply_told reply (length old.desk.history) 0
+    → IsSomeAnd (encoder_on old.desk recorder) (λ encoder. HasFinished old new recorder encoder out)
+finished_by old new recorder reply out setup sent grown seats number still settled out_is =
+    some_by (encoder_on old.desk recorder) (λ encoder. HasSent old.desk new.desk 0 (finish_of encoder recorder) reply) (λ encoder. HasFinished old new recorder encoder out)
+    (λ encoder. ended_by old new recorder encoder reply out setup grown seats number still settled out_is) sent
 
 -- What waits to be told.
 
@@ -107,6 +136,13 @@ waits_after old new who event reply items more told setup sent grown waits =
     let short : length waits.first + length items ≡ length before
     = sym (length-append waits.first items) ∙ ap (λ (xs : List Item). length xs) waits.is_end in
     record { first = waits.first; is_end = is; within = omega (arith, long, short, waits.within) }
+
+-- and after one that is of what is there
+pub waits_after_some : {A : Type 0} (old new : DeskValue) (who : ℕ) (found : Option A) (event : A → Event) (reply : Reply) (items more : List Item) (told : ℕ)
+    → new.setup ≡ old.setup → IsSomeAnd found (λ a. HasSent old new who (event a) reply) → HandsOutGrowth old new items more
+    → AreWaiting old.setup old.history items told → AreWaiting new.setup new.history more told
+waits_after_some old new who None event reply items more told setup sent grown waits = absurd sent
+waits_after_some old new who (Some a) event reply items more told setup sent grown waits = waits_after old new who (event a) reply items more told setup sent grown waits
 
 -- and where all were told
 pub none_left : (setup : Setup) (history : List Entry) (items left : List Item) (told : ℕ) → left ≡ [] → AreWaiting setup history items told → AreWaiting setup history left 0

@@ -1,12 +1,15 @@
 -- What contracts see of what lies behind a device, and what calls do to it.
-use Rattle.std.specs.Prelude.{◌≡◌, ℕ, zero, suc, ◌+◌, ◌-◌, ◌^◌, ◌<◌, ◌≤◌, min, ◌++◌, drop, Bool, true, false, List, [], ◌∷◌, length, reverse, slice_get, Option, None, is_none, MatchBool, IfSome, IsSomeAnd, if◌then◌else◌}
+use Rattle.std.specs.Prelude.{◌≡◌, ℕ, zero, suc, ◌+◌, ◌-◌, ◌^◌, ◌<◌, ◌≤◌, min, ◌++◌, drop, Bool, true, false, List, [], ◌∷◌, length, reverse, slice_get, Option, Some, None, is_none, IfSome, IsSomeAnd, option_to_list}
 use Rattle.wg_types.specs.declared.commands.CommandOf.{CommandOf}
 use Rattle.wg_types.specs.declared.commands.On.{On}
 use Rattle.wg_types.specs.declared.limits.Limits.{Limits}
 use Rattle.wg_trace.specs.declared.replies.Reply.{Reply}
 use Rattle.wg_trace.specs.declared.replies.Settlement.{Settlement}
 use Rattle.wg_types.specs.declared.requests.RequestOf.{RequestOf}
-use Rattle.wg_types.specs.Commands.{is_begin, map_refs as map_command}
+use Rattle.wg_types.specs.Commands.{map_refs as map_command}
+use Rattle.wg_types.specs.declared.handles.ObjRef.{ObjRef}
+use Rattle.wg_encoder.specs.declared.recorder.Noted.{Noted}
+use Rattle.wg_encoder.specs.Recorders.{RecorderValue, is_late, recorded, noted, has_taken, most_takes}
 use Rattle.wg_orders.specs.Trace.{Item}
 use Rattle.wg_history.specs.declared.events.Setup.{Setup}
 use Rattle.wg_history.specs.declared.events.Event.{Event}
@@ -17,11 +20,12 @@ use Rattle.wg_history.specs.Traces.{Trace}
 use Rattle.wg_desk.specs.declared.desk.DeskError.{DeskError}
 use Rattle.wg_desk.specs.declared.desk.DeskError.TheVariants.{NoMemory, NoObject, NoPass}
 use Rattle.wg_desk.specs.Desks.{DeskValue, HasSent, HandsOutGrowth, IsUnchanged, IsNumber}
-use Rattle.wg_desk.specs.Seats.{found_at, passes_at, is_late_at, recorded_at}
+use Rattle.wg_calls.specs.Calls.{finish_of, known_of_finish}
+use Rattle.wg_desk.specs.Seats.{found_at, seat_made}
 use Rattle.wg_desk.specs.Sent.{event_sent, seats_after}
 use Rattle.wg_told.specs.declared.replies.ToldReply.{ToldReply}
 use Rattle.wg_told.specs.declared.replies.ToldSettlement.{ToldSettlement}
-use Rattle.wg_told.specs.Replies.{reply_told, kept_told, settlement_told}
+use Rattle.wg_told.specs.Replies.{reply_told, settlement_told}
 use Rattle.wg_told.specs.declared.items.ToldItem.{ToldItem}
 use Rattle.wg_told.specs.declared.items.ToldUse.{ToldUse}
 use Rattle.wg_told.specs.declared.items.ToldAccess.{ToldAccess}
@@ -80,34 +84,29 @@ pub record HasAsked (old new : InnerValue) (request : RequestOf ℕ) (out : Told
   pub number : IsNumber (answer_to old (event_sent old.desk.seats request)).answer (length old.desk.seats)
   pub out_is : out ≡ reply_told (answer_to old (event_sent old.desk.seats request)) (length old.desk.history) 0
 
--- the number of the pass that a command begins
-abbrev pub pass_number : InnerValue → ℕ → CommandOf ℕ → ℕ
-pass_number old encoder command = if is_begin command then passes_at old.desk.seats encoder else 0
+-- A command was noted on a recorder of a device: it was kept, or came late.
+abbrev pub HasNoted : InnerValue → RecorderValue → RecorderValue → On → CommandOf ℕ → Noted → Type 0
+HasNoted device old new on command answer = (answer ≡ noted (is_late old on)) × (new ≡ recorded old on (map_command (found_at device.desk.seats) command))
 
--- the event of a command that comes too late
-abbrev pub late_event : InnerValue → ℕ → Event
-late_event old encoder = Late (found_at old.desk.seats encoder).reference
-
--- A late command was told as its event, and changed no seat.
-pub record HasComeLate (old new : InnerValue) (encoder : ℕ) (command : CommandOf ℕ) (out : ToldReply) : Type 0 where
-  pub done : HasDone old new (late_event old encoder)
+-- That a command came late was told the device, of the encoder of its recorder, and changed no seat.
+pub record HasComeLate (old new : InnerValue) (encoder : ObjRef) (out : ToldReply) : Type 0 where
+  pub done : HasDone old new (Late encoder)
   pub seats : new.desk.seats ≡ old.desk.seats
-  pub out_is : out ≡ reply_told (answer_to old (late_event old encoder)) (length old.desk.history) (pass_number old encoder command)
+  pub out_is : out ≡ reply_told (answer_to old (Late encoder)) (length old.desk.history) 0
 
--- A command was kept by its recorder, and nothing else changed.
-pub record HasKept (old new : InnerValue) (encoder : ℕ) (on : On) (command : CommandOf ℕ) (out : ToldReply) : Type 0 where
-  pub setup : new.desk.setup ≡ old.desk.setup
-  pub history : new.desk.history ≡ old.desk.history
-  pub seats : new.desk.seats ≡ recorded_at old.desk.seats encoder on (map_command (found_at old.desk.seats) command)
-  pub items : new.items ≡ old.items
-  pub still : new.told ≡ old.told
-  pub settled : new.settled ≡ old.settled
-  pub out_is : out ≡ kept_told (pass_number old encoder command)
+-- An encoder was ended with what its recorder had kept, and this is what was told of it.
+pub record HasFinished (old new : InnerValue) (recorder : RecorderValue) (encoder : ObjRef) (out : ToldReply) : Type 0 where
+  pub done : HasDone old new (finish_of encoder recorder)
+  pub seats : new.desk.seats ≡ old.desk.seats ++ option_to_list (seat_made old.desk.setup (Some (known_of_finish recorder)) (answer_to old (finish_of encoder recorder)).answer)
+  pub number : IsNumber (answer_to old (finish_of encoder recorder)).answer (length old.desk.seats)
+  pub out_is : out ≡ reply_told (answer_to old (finish_of encoder recorder)) (length old.desk.history) 0
 
--- A command came late, which is an event, or was kept.
-abbrev pub HasRecorded : InnerValue → InnerValue → ℕ → On → CommandOf ℕ → ToldReply → Type 0
-HasRecorded old new encoder on command out =
-    MatchBool (is_late_at old.desk.seats encoder on) (HasComeLate old new encoder command out) (HasKept old new encoder on command out)
+-- A recorder is as it was: it has the same commands and has ended exactly where it had, and is equal to what it was but for how often it
+-- was taken from, where that is at the end of its count.
+pub record IsHeld (old new : RecorderValue) : Type 0 where
+  pub as_before : record new { takes = old.takes } ≡ old
+  pub ended : has_taken new ≡ has_taken old
+  pub same : old.takes < most_takes → new ≡ old
 
 -- why a call was not made; want of memory is the one free reason
 abbrev pub IsCause : DeskError → Bool → Bool → Type 0

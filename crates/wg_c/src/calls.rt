@@ -9,8 +9,8 @@ use crate::boundary::{ask, ask_made};
 use crate::sealed::Device;
 use std::alloc::Global;
 use wg_told::flats::{
-    FlatAttribute, FlatBuffer, FlatBundle, FlatGroupEntry, FlatIfaceEntry, FlatLayoutEntry,
-    FlatRender, FlatTexture, FlatVertexBuffer, FlatView,
+    FlatAttribute, FlatBuffer, FlatGroupEntry, FlatIfaceEntry, FlatLayoutEntry, FlatRender,
+    FlatTexture, FlatVertexBuffer, FlatView,
 };
 use wg_told::{ToldReply, requests};
 use wg_types::handles::QueriesInfo;
@@ -202,48 +202,4 @@ pub extern "C" fn wethlorn_create_query_set(
         })),
         out,
     )
-}
-
-/// Makes an encoder.
-#[unsafe(no_mangle)]
-pub extern "C" fn wethlorn_create_encoder(
-    alloc: Global,
-    device: &mut Device,
-    out: &mut ToldReply,
-) -> u32
-    ensures { Asks (Some request.CreateEncoder) device.old.inside device.new.inside out.old out.new result }
-{
-    ask(device, alloc, Ok(Some(RequestOf::CreateEncoder)), out)
-}
-
-/// Makes a bundle encoder.
-#[unsafe(no_mangle)]
-pub extern "C" fn wethlorn_create_bundle_encoder(
-    alloc: Global,
-    device: &mut Device,
-    desc: &FlatBundle,
-    colors: &[u32],
-    out: &mut ToldReply,
-) -> u32
-    ensures { Asks (asked.create_bundle_encoder desc.now colors.now) device.old.inside device.new.inside out.old out.new result }
-{
-    ask(
-        device,
-        alloc,
-        requests::create_bundle_encoder(alloc, desc, colors),
-        out,
-    )
-}
-
-/// Ends an encoder or a bundle encoder.
-#[unsafe(no_mangle)]
-pub extern "C" fn wethlorn_finish(
-    alloc: Global,
-    device: &mut Device,
-    encoder: u64,
-    out: &mut ToldReply,
-) -> u32
-    ensures { Asks (Some (request.Finish encoder)) device.old.inside device.new.inside out.old out.new result }
-{
-    ask(device, alloc, Ok(Some(RequestOf::Finish { encoder })), out)
 }

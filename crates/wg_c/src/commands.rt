@@ -3,32 +3,32 @@ ghost use Rattle.std.specs.Prelude.{Some};
 ghost use Rattle.wg_types.specs.declared.commands.CommandOf.TheVariants as command;
 ghost use Rattle.wg_told.specs.Asked as asked;
 ghost use Rattle.wg_told.specs.Tables.{wide_of};
-ghost use Rattle.wg_types.specs.declared.commands.On.TheVariants.{Encoder};
+ghost use Rattle.wg_types.specs.declared.commands.On.TheVariants as on;
 ghost use Rattle.wg_told.specs.Flats.{on_of};
-ghost use Rattle.wg_c.specs.Exports.{Records};
+ghost use Rattle.wg_c.specs.Exports.{Begins, Records};
 
-use crate::boundary::record;
-use crate::sealed::Device;
+use crate::boundary::{begin, record};
+use crate::encoder::Encoder;
+use crate::lent::Lent;
 use std::alloc::Global;
 use wg_told::flats::{FlatBufferCopy, FlatColor, FlatDepth, FlatTexelCopy, FlatTextureCopy};
-use wg_told::{ToldReply, commands, wide_of};
+use wg_told::{commands, wide_of};
 use wg_types::commands::CommandOf;
 
 /// Begins a compute pass.
 #[unsafe(no_mangle)]
 pub extern "C" fn wethlorn_begin_compute_pass(
     alloc: Global,
-    device: &mut Device,
-    encoder: u64,
-    out: &mut ToldReply,
+    device: &Lent,
+    encoder: &mut Encoder,
+    out: &mut u32,
 ) -> u32
-    ensures { Records (Some command.BeginComputePass) encoder Encoder device.old.inside device.new.inside out.old out.new result }
+    ensures { Begins (Some command.BeginComputePass) device.now.inside encoder.old.inside encoder.new.inside out.old out.new result }
 {
-    record(
+    begin(
         device,
-        alloc,
         encoder,
-        u32::MAX,
+        alloc,
         Ok(Some(CommandOf::BeginComputePass)),
         out,
     )
@@ -38,21 +38,20 @@ pub extern "C" fn wethlorn_begin_compute_pass(
 #[unsafe(no_mangle)]
 pub extern "C" fn wethlorn_begin_render_pass(
     alloc: Global,
-    device: &mut Device,
-    encoder: u64,
+    device: &Lent,
+    encoder: &mut Encoder,
     colors: &[FlatColor],
     depth: &FlatDepth,
     queries: u64,
     max_draws: u64,
-    out: &mut ToldReply,
+    out: &mut u32,
 ) -> u32
-    ensures { Records (asked.begin_render_pass colors.now depth.now queries max_draws) encoder Encoder device.old.inside device.new.inside out.old out.new result }
+    ensures { Begins (asked.begin_render_pass colors.now depth.now queries max_draws) device.now.inside encoder.old.inside encoder.new.inside out.old out.new result }
 {
-    record(
+    begin(
         device,
-        alloc,
         encoder,
-        u32::MAX,
+        alloc,
         commands::begin_render_pass(alloc, colors, depth, queries, max_draws),
         out,
     )
@@ -62,34 +61,31 @@ pub extern "C" fn wethlorn_begin_render_pass(
 #[unsafe(no_mangle)]
 pub extern "C" fn wethlorn_end(
     alloc: Global,
-    device: &mut Device,
-    encoder: u64,
+    device: &Lent,
+    encoder: &mut Encoder,
     pass: u32,
-    out: &mut ToldReply,
 ) -> u32
-    ensures { Records (Some command.End) encoder (on_of pass) device.old.inside device.new.inside out.old out.new result }
+    ensures { Records (Some command.End) (on_of pass) device.now.inside encoder.old.inside encoder.new.inside result }
 {
-    record(device, alloc, encoder, pass, Ok(Some(CommandOf::End)), out)
+    record(device, encoder, alloc, pass, Ok(Some(CommandOf::End)))
 }
 
 /// Opens a debug group.
 #[unsafe(no_mangle)]
 pub extern "C" fn wethlorn_push_debug_group(
     alloc: Global,
-    device: &mut Device,
-    encoder: u64,
+    device: &Lent,
+    encoder: &mut Encoder,
     pass: u32,
-    out: &mut ToldReply,
 ) -> u32
-    ensures { Records (Some command.PushDebugGroup) encoder (on_of pass) device.old.inside device.new.inside out.old out.new result }
+    ensures { Records (Some command.PushDebugGroup) (on_of pass) device.now.inside encoder.old.inside encoder.new.inside result }
 {
     record(
         device,
-        alloc,
         encoder,
+        alloc,
         pass,
         Ok(Some(CommandOf::PushDebugGroup)),
-        out,
     )
 }
 
@@ -97,20 +93,18 @@ pub extern "C" fn wethlorn_push_debug_group(
 #[unsafe(no_mangle)]
 pub extern "C" fn wethlorn_pop_debug_group(
     alloc: Global,
-    device: &mut Device,
-    encoder: u64,
+    device: &Lent,
+    encoder: &mut Encoder,
     pass: u32,
-    out: &mut ToldReply,
 ) -> u32
-    ensures { Records (Some command.PopDebugGroup) encoder (on_of pass) device.old.inside device.new.inside out.old out.new result }
+    ensures { Records (Some command.PopDebugGroup) (on_of pass) device.now.inside encoder.old.inside encoder.new.inside result }
 {
     record(
         device,
-        alloc,
         encoder,
+        alloc,
         pass,
         Ok(Some(CommandOf::PopDebugGroup)),
-        out,
     )
 }
 
@@ -118,20 +112,18 @@ pub extern "C" fn wethlorn_pop_debug_group(
 #[unsafe(no_mangle)]
 pub extern "C" fn wethlorn_insert_debug_marker(
     alloc: Global,
-    device: &mut Device,
-    encoder: u64,
+    device: &Lent,
+    encoder: &mut Encoder,
     pass: u32,
-    out: &mut ToldReply,
 ) -> u32
-    ensures { Records (Some command.InsertDebugMarker) encoder (on_of pass) device.old.inside device.new.inside out.old out.new result }
+    ensures { Records (Some command.InsertDebugMarker) (on_of pass) device.now.inside encoder.old.inside encoder.new.inside result }
 {
     record(
         device,
-        alloc,
         encoder,
+        alloc,
         pass,
         Ok(Some(CommandOf::InsertDebugMarker)),
-        out,
     )
 }
 
@@ -139,20 +131,18 @@ pub extern "C" fn wethlorn_insert_debug_marker(
 #[unsafe(no_mangle)]
 pub extern "C" fn wethlorn_copy_buffer_to_buffer(
     alloc: Global,
-    device: &mut Device,
-    encoder: u64,
+    device: &Lent,
+    encoder: &mut Encoder,
     copy: &FlatBufferCopy,
-    out: &mut ToldReply,
 ) -> u32
-    ensures { Records (Some (asked.copy_buffer_to_buffer copy.now)) encoder Encoder device.old.inside device.new.inside out.old out.new result }
+    ensures { Records (Some (asked.copy_buffer_to_buffer copy.now)) on.Encoder device.now.inside encoder.old.inside encoder.new.inside result }
 {
     record(
         device,
-        alloc,
         encoder,
+        alloc,
         u32::MAX,
         Ok(Some(commands::copy_buffer_to_buffer(copy))),
-        out,
     )
 }
 
@@ -160,20 +150,18 @@ pub extern "C" fn wethlorn_copy_buffer_to_buffer(
 #[unsafe(no_mangle)]
 pub extern "C" fn wethlorn_copy_buffer_to_texture(
     alloc: Global,
-    device: &mut Device,
-    encoder: u64,
+    device: &Lent,
+    encoder: &mut Encoder,
     copy: &FlatTexelCopy,
-    out: &mut ToldReply,
 ) -> u32
-    ensures { Records (asked.copy_buffer_to_texture copy.now) encoder Encoder device.old.inside device.new.inside out.old out.new result }
+    ensures { Records (asked.copy_buffer_to_texture copy.now) on.Encoder device.now.inside encoder.old.inside encoder.new.inside result }
 {
     record(
         device,
-        alloc,
         encoder,
+        alloc,
         u32::MAX,
         Ok(commands::copy_buffer_to_texture(copy)),
-        out,
     )
 }
 
@@ -181,20 +169,18 @@ pub extern "C" fn wethlorn_copy_buffer_to_texture(
 #[unsafe(no_mangle)]
 pub extern "C" fn wethlorn_copy_texture_to_buffer(
     alloc: Global,
-    device: &mut Device,
-    encoder: u64,
+    device: &Lent,
+    encoder: &mut Encoder,
     copy: &FlatTexelCopy,
-    out: &mut ToldReply,
 ) -> u32
-    ensures { Records (asked.copy_texture_to_buffer copy.now) encoder Encoder device.old.inside device.new.inside out.old out.new result }
+    ensures { Records (asked.copy_texture_to_buffer copy.now) on.Encoder device.now.inside encoder.old.inside encoder.new.inside result }
 {
     record(
         device,
-        alloc,
         encoder,
+        alloc,
         u32::MAX,
         Ok(commands::copy_texture_to_buffer(copy)),
-        out,
     )
 }
 
@@ -202,20 +188,18 @@ pub extern "C" fn wethlorn_copy_texture_to_buffer(
 #[unsafe(no_mangle)]
 pub extern "C" fn wethlorn_copy_texture_to_texture(
     alloc: Global,
-    device: &mut Device,
-    encoder: u64,
+    device: &Lent,
+    encoder: &mut Encoder,
     copy: &FlatTextureCopy,
-    out: &mut ToldReply,
 ) -> u32
-    ensures { Records (Some (asked.copy_texture_to_texture copy.now)) encoder Encoder device.old.inside device.new.inside out.old out.new result }
+    ensures { Records (Some (asked.copy_texture_to_texture copy.now)) on.Encoder device.now.inside encoder.old.inside encoder.new.inside result }
 {
     record(
         device,
-        alloc,
         encoder,
+        alloc,
         u32::MAX,
         Ok(Some(commands::copy_texture_to_texture(copy))),
-        out,
     )
 }
 
@@ -223,26 +207,24 @@ pub extern "C" fn wethlorn_copy_texture_to_texture(
 #[unsafe(no_mangle)]
 pub extern "C" fn wethlorn_clear_buffer(
     alloc: Global,
-    device: &mut Device,
-    encoder: u64,
+    device: &Lent,
+    encoder: &mut Encoder,
     buffer: u64,
     offset: u64,
     size: u64,
-    out: &mut ToldReply,
 ) -> u32
-    ensures { Records (Some (command.ClearBuffer buffer offset (wide_of size))) encoder Encoder device.old.inside device.new.inside out.old out.new result }
+    ensures { Records (Some (command.ClearBuffer buffer offset (wide_of size))) on.Encoder device.now.inside encoder.old.inside encoder.new.inside result }
 {
     record(
         device,
-        alloc,
         encoder,
+        alloc,
         u32::MAX,
         Ok(Some(CommandOf::ClearBuffer {
             buffer,
             offset,
             size: wide_of(size),
         })),
-        out,
     )
 }
 
@@ -250,21 +232,20 @@ pub extern "C" fn wethlorn_clear_buffer(
 #[unsafe(no_mangle)]
 pub extern "C" fn wethlorn_resolve_query_set(
     alloc: Global,
-    device: &mut Device,
-    encoder: u64,
+    device: &Lent,
+    encoder: &mut Encoder,
     queries: u64,
     first: u32,
     count: u32,
     buffer: u64,
     offset: u64,
-    out: &mut ToldReply,
 ) -> u32
-    ensures { Records (Some (command.ResolveQuerySet queries first count buffer offset)) encoder Encoder device.old.inside device.new.inside out.old out.new result }
+    ensures { Records (Some (command.ResolveQuerySet queries first count buffer offset)) on.Encoder device.now.inside encoder.old.inside encoder.new.inside result }
 {
     record(
         device,
-        alloc,
         encoder,
+        alloc,
         u32::MAX,
         Ok(Some(CommandOf::ResolveQuerySet {
             queries,
@@ -273,6 +254,5 @@ pub extern "C" fn wethlorn_resolve_query_set(
             buffer,
             offset,
         })),
-        out,
     )
 }

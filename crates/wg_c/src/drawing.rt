@@ -7,31 +7,30 @@ ghost use Rattle.wg_told.specs.Flats.{on_of};
 ghost use Rattle.wg_c.specs.Exports.{Records};
 
 use crate::boundary::{record, record_made};
-use crate::sealed::Device;
+use crate::encoder::Encoder;
+use crate::lent::Lent;
 use std::alloc::Global;
 use wg_told::flats::FlatViewport;
-use wg_told::{ToldReply, commands, wide_of};
+use wg_told::{commands, wide_of};
 use wg_types::commands::CommandOf;
 
 /// Sets a pipeline.
 #[unsafe(no_mangle)]
 pub extern "C" fn wethlorn_set_pipeline(
     alloc: Global,
-    device: &mut Device,
-    encoder: u64,
+    device: &Lent,
+    encoder: &mut Encoder,
     pass: u32,
     pipeline: u64,
-    out: &mut ToldReply,
 ) -> u32
-    ensures { Records (Some (command.SetPipeline pipeline)) encoder (on_of pass) device.old.inside device.new.inside out.old out.new result }
+    ensures { Records (Some (command.SetPipeline pipeline)) (on_of pass) device.now.inside encoder.old.inside encoder.new.inside result }
 {
     record(
         device,
-        alloc,
         encoder,
+        alloc,
         pass,
         Ok(Some(CommandOf::SetPipeline { pipeline })),
-        out,
     )
 }
 
@@ -39,23 +38,21 @@ pub extern "C" fn wethlorn_set_pipeline(
 #[unsafe(no_mangle)]
 pub extern "C" fn wethlorn_set_bind_group(
     alloc: Global,
-    device: &mut Device,
-    encoder: u64,
+    device: &Lent,
+    encoder: &mut Encoder,
     pass: u32,
     index: u32,
     group: u64,
     offsets: &[u32],
-    out: &mut ToldReply,
 ) -> u32
-    ensures { Records (Some (command.SetBindGroup index (wide_of group) offsets.now)) encoder (on_of pass) device.old.inside device.new.inside out.old out.new result }
+    ensures { Records (Some (command.SetBindGroup index (wide_of group) offsets.now)) (on_of pass) device.now.inside encoder.old.inside encoder.new.inside result }
 {
     record_made(
         device,
-        alloc,
         encoder,
+        alloc,
         pass,
         commands::set_bind_group(alloc, index, group, offsets),
-        out,
     )
 }
 
@@ -63,23 +60,21 @@ pub extern "C" fn wethlorn_set_bind_group(
 #[unsafe(no_mangle)]
 pub extern "C" fn wethlorn_dispatch(
     alloc: Global,
-    device: &mut Device,
-    encoder: u64,
+    device: &Lent,
+    encoder: &mut Encoder,
     pass: u32,
     x: u32,
     y: u32,
     z: u32,
-    out: &mut ToldReply,
 ) -> u32
-    ensures { Records (Some (command.Dispatch x y z)) encoder (on_of pass) device.old.inside device.new.inside out.old out.new result }
+    ensures { Records (Some (command.Dispatch x y z)) (on_of pass) device.now.inside encoder.old.inside encoder.new.inside result }
 {
     record(
         device,
-        alloc,
         encoder,
+        alloc,
         pass,
         Ok(Some(CommandOf::Dispatch { x, y, z })),
-        out,
     )
 }
 
@@ -87,22 +82,20 @@ pub extern "C" fn wethlorn_dispatch(
 #[unsafe(no_mangle)]
 pub extern "C" fn wethlorn_dispatch_indirect(
     alloc: Global,
-    device: &mut Device,
-    encoder: u64,
+    device: &Lent,
+    encoder: &mut Encoder,
     pass: u32,
     buffer: u64,
     offset: u64,
-    out: &mut ToldReply,
 ) -> u32
-    ensures { Records (Some (command.DispatchIndirect buffer offset)) encoder (on_of pass) device.old.inside device.new.inside out.old out.new result }
+    ensures { Records (Some (command.DispatchIndirect buffer offset)) (on_of pass) device.now.inside encoder.old.inside encoder.new.inside result }
 {
     record(
         device,
-        alloc,
         encoder,
+        alloc,
         pass,
         Ok(Some(CommandOf::DispatchIndirect { buffer, offset })),
-        out,
     )
 }
 
@@ -110,21 +103,20 @@ pub extern "C" fn wethlorn_dispatch_indirect(
 #[unsafe(no_mangle)]
 pub extern "C" fn wethlorn_set_vertex_buffer(
     alloc: Global,
-    device: &mut Device,
-    encoder: u64,
+    device: &Lent,
+    encoder: &mut Encoder,
     pass: u32,
     slot: u32,
     buffer: u64,
     offset: u64,
     size: u64,
-    out: &mut ToldReply,
 ) -> u32
-    ensures { Records (Some (command.SetVertexBuffer slot (wide_of buffer) offset (wide_of size))) encoder (on_of pass) device.old.inside device.new.inside out.old out.new result }
+    ensures { Records (Some (command.SetVertexBuffer slot (wide_of buffer) offset (wide_of size))) (on_of pass) device.now.inside encoder.old.inside encoder.new.inside result }
 {
     record(
         device,
-        alloc,
         encoder,
+        alloc,
         pass,
         Ok(Some(CommandOf::SetVertexBuffer {
             slot,
@@ -132,7 +124,6 @@ pub extern "C" fn wethlorn_set_vertex_buffer(
             offset,
             size: wide_of(size),
         })),
-        out,
     )
 }
 
@@ -140,24 +131,22 @@ pub extern "C" fn wethlorn_set_vertex_buffer(
 #[unsafe(no_mangle)]
 pub extern "C" fn wethlorn_set_index_buffer(
     alloc: Global,
-    device: &mut Device,
-    encoder: u64,
+    device: &Lent,
+    encoder: &mut Encoder,
     pass: u32,
     buffer: u64,
     format: u32,
     offset: u64,
     size: u64,
-    out: &mut ToldReply,
 ) -> u32
-    ensures { Records (asked.set_index_buffer buffer format offset size) encoder (on_of pass) device.old.inside device.new.inside out.old out.new result }
+    ensures { Records (asked.set_index_buffer buffer format offset size) (on_of pass) device.now.inside encoder.old.inside encoder.new.inside result }
 {
     record(
         device,
-        alloc,
         encoder,
+        alloc,
         pass,
         Ok(commands::set_index_buffer(buffer, format, offset, size)),
-        out,
     )
 }
 
@@ -165,21 +154,20 @@ pub extern "C" fn wethlorn_set_index_buffer(
 #[unsafe(no_mangle)]
 pub extern "C" fn wethlorn_draw(
     alloc: Global,
-    device: &mut Device,
-    encoder: u64,
+    device: &Lent,
+    encoder: &mut Encoder,
     pass: u32,
     vertices: u32,
     instances: u32,
     first_vertex: u32,
     first_instance: u32,
-    out: &mut ToldReply,
 ) -> u32
-    ensures { Records (Some (command.Draw vertices instances first_vertex first_instance)) encoder (on_of pass) device.old.inside device.new.inside out.old out.new result }
+    ensures { Records (Some (command.Draw vertices instances first_vertex first_instance)) (on_of pass) device.now.inside encoder.old.inside encoder.new.inside result }
 {
     record(
         device,
-        alloc,
         encoder,
+        alloc,
         pass,
         Ok(Some(CommandOf::Draw {
             vertices,
@@ -187,7 +175,6 @@ pub extern "C" fn wethlorn_draw(
             first_vertex,
             first_instance,
         })),
-        out,
     )
 }
 
@@ -195,21 +182,20 @@ pub extern "C" fn wethlorn_draw(
 #[unsafe(no_mangle)]
 pub extern "C" fn wethlorn_draw_indexed(
     alloc: Global,
-    device: &mut Device,
-    encoder: u64,
+    device: &Lent,
+    encoder: &mut Encoder,
     pass: u32,
     indices: u32,
     instances: u32,
     first_index: u32,
     first_instance: u32,
-    out: &mut ToldReply,
 ) -> u32
-    ensures { Records (Some (command.DrawIndexed indices instances first_index first_instance)) encoder (on_of pass) device.old.inside device.new.inside out.old out.new result }
+    ensures { Records (Some (command.DrawIndexed indices instances first_index first_instance)) (on_of pass) device.now.inside encoder.old.inside encoder.new.inside result }
 {
     record(
         device,
-        alloc,
         encoder,
+        alloc,
         pass,
         Ok(Some(CommandOf::DrawIndexed {
             indices,
@@ -217,7 +203,6 @@ pub extern "C" fn wethlorn_draw_indexed(
             first_index,
             first_instance,
         })),
-        out,
     )
 }
 
@@ -225,22 +210,20 @@ pub extern "C" fn wethlorn_draw_indexed(
 #[unsafe(no_mangle)]
 pub extern "C" fn wethlorn_draw_indirect(
     alloc: Global,
-    device: &mut Device,
-    encoder: u64,
+    device: &Lent,
+    encoder: &mut Encoder,
     pass: u32,
     buffer: u64,
     offset: u64,
-    out: &mut ToldReply,
 ) -> u32
-    ensures { Records (Some (command.DrawIndirect buffer offset)) encoder (on_of pass) device.old.inside device.new.inside out.old out.new result }
+    ensures { Records (Some (command.DrawIndirect buffer offset)) (on_of pass) device.now.inside encoder.old.inside encoder.new.inside result }
 {
     record(
         device,
-        alloc,
         encoder,
+        alloc,
         pass,
         Ok(Some(CommandOf::DrawIndirect { buffer, offset })),
-        out,
     )
 }
 
@@ -248,22 +231,20 @@ pub extern "C" fn wethlorn_draw_indirect(
 #[unsafe(no_mangle)]
 pub extern "C" fn wethlorn_draw_indexed_indirect(
     alloc: Global,
-    device: &mut Device,
-    encoder: u64,
+    device: &Lent,
+    encoder: &mut Encoder,
     pass: u32,
     buffer: u64,
     offset: u64,
-    out: &mut ToldReply,
 ) -> u32
-    ensures { Records (Some (command.DrawIndexedIndirect buffer offset)) encoder (on_of pass) device.old.inside device.new.inside out.old out.new result }
+    ensures { Records (Some (command.DrawIndexedIndirect buffer offset)) (on_of pass) device.now.inside encoder.old.inside encoder.new.inside result }
 {
     record(
         device,
-        alloc,
         encoder,
+        alloc,
         pass,
         Ok(Some(CommandOf::DrawIndexedIndirect { buffer, offset })),
-        out,
     )
 }
 
@@ -271,21 +252,19 @@ pub extern "C" fn wethlorn_draw_indexed_indirect(
 #[unsafe(no_mangle)]
 pub extern "C" fn wethlorn_set_viewport(
     alloc: Global,
-    device: &mut Device,
-    encoder: u64,
+    device: &Lent,
+    encoder: &mut Encoder,
     pass: u32,
     viewport: &FlatViewport,
-    out: &mut ToldReply,
 ) -> u32
-    ensures { Records (asked.set_viewport viewport.now) encoder (on_of pass) device.old.inside device.new.inside out.old out.new result }
+    ensures { Records (asked.set_viewport viewport.now) (on_of pass) device.now.inside encoder.old.inside encoder.new.inside result }
 {
     record(
         device,
-        alloc,
         encoder,
+        alloc,
         pass,
         Ok(commands::set_viewport(viewport)),
-        out,
     )
 }
 
@@ -293,21 +272,20 @@ pub extern "C" fn wethlorn_set_viewport(
 #[unsafe(no_mangle)]
 pub extern "C" fn wethlorn_set_scissor_rect(
     alloc: Global,
-    device: &mut Device,
-    encoder: u64,
+    device: &Lent,
+    encoder: &mut Encoder,
     pass: u32,
     x: u32,
     y: u32,
     width: u32,
     height: u32,
-    out: &mut ToldReply,
 ) -> u32
-    ensures { Records (Some (command.SetScissorRect x y width height)) encoder (on_of pass) device.old.inside device.new.inside out.old out.new result }
+    ensures { Records (Some (command.SetScissorRect x y width height)) (on_of pass) device.now.inside encoder.old.inside encoder.new.inside result }
 {
     record(
         device,
-        alloc,
         encoder,
+        alloc,
         pass,
         Ok(Some(CommandOf::SetScissorRect {
             x,
@@ -315,7 +293,6 @@ pub extern "C" fn wethlorn_set_scissor_rect(
             width,
             height,
         })),
-        out,
     )
 }
 
@@ -323,20 +300,18 @@ pub extern "C" fn wethlorn_set_scissor_rect(
 #[unsafe(no_mangle)]
 pub extern "C" fn wethlorn_set_blend_constant(
     alloc: Global,
-    device: &mut Device,
-    encoder: u64,
+    device: &Lent,
+    encoder: &mut Encoder,
     pass: u32,
-    out: &mut ToldReply,
 ) -> u32
-    ensures { Records (Some command.SetBlendConstant) encoder (on_of pass) device.old.inside device.new.inside out.old out.new result }
+    ensures { Records (Some command.SetBlendConstant) (on_of pass) device.now.inside encoder.old.inside encoder.new.inside result }
 {
     record(
         device,
-        alloc,
         encoder,
+        alloc,
         pass,
         Ok(Some(CommandOf::SetBlendConstant)),
-        out,
     )
 }
 
@@ -344,20 +319,18 @@ pub extern "C" fn wethlorn_set_blend_constant(
 #[unsafe(no_mangle)]
 pub extern "C" fn wethlorn_set_stencil_reference(
     alloc: Global,
-    device: &mut Device,
-    encoder: u64,
+    device: &Lent,
+    encoder: &mut Encoder,
     pass: u32,
-    out: &mut ToldReply,
 ) -> u32
-    ensures { Records (Some command.SetStencilReference) encoder (on_of pass) device.old.inside device.new.inside out.old out.new result }
+    ensures { Records (Some command.SetStencilReference) (on_of pass) device.now.inside encoder.old.inside encoder.new.inside result }
 {
     record(
         device,
-        alloc,
         encoder,
+        alloc,
         pass,
         Ok(Some(CommandOf::SetStencilReference)),
-        out,
     )
 }
 
@@ -365,21 +338,19 @@ pub extern "C" fn wethlorn_set_stencil_reference(
 #[unsafe(no_mangle)]
 pub extern "C" fn wethlorn_begin_occlusion_query(
     alloc: Global,
-    device: &mut Device,
-    encoder: u64,
+    device: &Lent,
+    encoder: &mut Encoder,
     pass: u32,
     index: u32,
-    out: &mut ToldReply,
 ) -> u32
-    ensures { Records (Some (command.BeginOcclusionQuery index)) encoder (on_of pass) device.old.inside device.new.inside out.old out.new result }
+    ensures { Records (Some (command.BeginOcclusionQuery index)) (on_of pass) device.now.inside encoder.old.inside encoder.new.inside result }
 {
     record(
         device,
-        alloc,
         encoder,
+        alloc,
         pass,
         Ok(Some(CommandOf::BeginOcclusionQuery { index })),
-        out,
     )
 }
 
@@ -387,20 +358,18 @@ pub extern "C" fn wethlorn_begin_occlusion_query(
 #[unsafe(no_mangle)]
 pub extern "C" fn wethlorn_end_occlusion_query(
     alloc: Global,
-    device: &mut Device,
-    encoder: u64,
+    device: &Lent,
+    encoder: &mut Encoder,
     pass: u32,
-    out: &mut ToldReply,
 ) -> u32
-    ensures { Records (Some command.EndOcclusionQuery) encoder (on_of pass) device.old.inside device.new.inside out.old out.new result }
+    ensures { Records (Some command.EndOcclusionQuery) (on_of pass) device.now.inside encoder.old.inside encoder.new.inside result }
 {
     record(
         device,
-        alloc,
         encoder,
+        alloc,
         pass,
         Ok(Some(CommandOf::EndOcclusionQuery)),
-        out,
     )
 }
 
@@ -408,20 +377,18 @@ pub extern "C" fn wethlorn_end_occlusion_query(
 #[unsafe(no_mangle)]
 pub extern "C" fn wethlorn_execute_bundles(
     alloc: Global,
-    device: &mut Device,
-    encoder: u64,
+    device: &Lent,
+    encoder: &mut Encoder,
     pass: u32,
     bundles: &[u64],
-    out: &mut ToldReply,
 ) -> u32
-    ensures { Records (Some (command.ExecuteBundles bundles.now)) encoder (on_of pass) device.old.inside device.new.inside out.old out.new result }
+    ensures { Records (Some (command.ExecuteBundles bundles.now)) (on_of pass) device.now.inside encoder.old.inside encoder.new.inside result }
 {
     record_made(
         device,
-        alloc,
         encoder,
+        alloc,
         pass,
         commands::execute_bundles(alloc, bundles),
-        out,
     )
 }

@@ -1,22 +1,26 @@
 //! What lies behind a device: the desk, and what waits to be told.
-ghost use Rattle.std.specs.Prelude.{◌≡◌, ◌+◌, ◌||◌, [], true, false, length, slice_get, Some, None, IfOk, IfErr, IfSome, IfNone, OnOk, OnErr, option_map, option_and_then, is_none, if◌then◌else◌};
-ghost use Rattle.wg_types.specs.Commands.{is_begin, named as command_named};
+ghost use Rattle.std.specs.Prelude.{◌≡◌, ◌+◌, ◌||◌, [], not, true, false, length, slice_get, Some, None, IfOk, IfErr, IfSome, IfNone, IsSomeAnd, OnOk, OnErr, option_map, option_and_then, is_none};
+ghost use Rattle.wg_types.specs.Commands.{named as command_named};
 ghost use Rattle.wg_types.specs.Requests.{named};
-ghost use Rattle.wg_desk.specs.Seats.{any_missing, handle_at, is_unbegun, passes_at};
-ghost use Rattle.wg_desk.specs.Desks.{FindsUnsetOn};
+ghost use Rattle.wg_calls.specs.Calls.{taken_out};
+ghost use Rattle.wg_calls.specs.Encoders.{is_begun};
+ghost use Rattle.wg_desk.specs.Seats.{any_missing, handle_at};
+ghost use Rattle.wg_desk.specs.Sent.{recorder_asked};
+ghost use Rattle.wg_desk.specs.Desks.{encoder_on, lacks, FindsUnsetOn};
 ghost use Rattle.wg_told.specs.Limits.{limit_at};
 ghost use Rattle.wg_told.specs.Replies.{settlement_told};
 ghost use Rattle.wg_told.specs.Items.{item_told, use_told, access_told, uses_of, accesses_of};
-ghost use Rattle.wg_c.specs.Inners.{IsOpened, HasAsked, HasRecorded, NothingHasChanged, IsCause, HasToldNext, HasDrained, last_of, left_in};
+ghost use Rattle.wg_c.specs.Inners.{IsOpened, HasAsked, HasNoted, HasComeLate, HasFinished, IsHeld, NothingHasChanged, IsCause, HasToldNext, HasDrained, last_of, left_in};
 
 use crate::left::ToldLeft;
 use crate::waiting::Waiting;
 use std::alloc::Global;
 use std::marker::Model;
 use wg_desk::{Desk, DeskError};
+use wg_encoder::{Noted, Recorder, command_limits};
 use wg_told::{
     ToldAccess, ToldCounts, ToldItem, ToldReply, ToldSettlement, ToldUse, access_told, item_counts,
-    item_told, kept_told, limit_at, reply_told, settlement_told, tell_items, use_told,
+    item_told, limit_at, reply_told, settlement_told, tell_items, use_told,
 };
 use wg_types::commands::{CommandOf, On};
 use wg_types::limits::Limits;
@@ -111,10 +115,19 @@ impl Inner {
         limit_at(&self.limits, name)
     }
 
-    /// Makes a call. What it adds to the trace and what it settles waits to be told.
+    /// A recorder of no encoder, which stands where one will be put.
+    pub fn blank(&self, alloc: Global) -> Recorder {
+        Recorder::new(alloc, 0, &command_limits(&self.limits))
+    }
+
+    /// Makes a call, with the recorder of what it makes. What it adds to the trace and what it settles waits to be told.
     #[tactic(auto, using(crate::proofs::Inside::asked_by))]
-    pub fn ask(&mut self, request: &RequestOf<u64>) -> Result<ToldReply, DeskError>
-        ensures done { IfOk result (λ told. HasAsked self.old self.new request.now told) }
+    pub fn ask(
+        &mut self,
+        request: &RequestOf<u64>,
+    ) -> Result<(ToldReply, Option<Recorder>), DeskError>
+        ensures done { IfOk result (λ made. HasAsked self.old self.new request.now made.0) }
+        ensures recorder { IfOk result (λ made. made.1 ≡ recorder_asked self.old.desk.setup self.old.desk.seats request.now) }
         ensures cause { IfErr result (λ error. IsCause error (any_missing self.old.desk.seats (named request.now)) false) }
         ensures unchanged { OnErr result (NothingHasChanged self.old self.new) }
     {
@@ -123,6 +136,43 @@ impl Inner {
         }
         let entry = self.desk.len();
         match self.desk.ask(CALLER, request, &mut self.items) {
+            Ok((reply, recorder)) => {
+                let told = reply_told(&reply, entry, 0);
+                self.waiting.push(reply.settled);
+                Ok((told, recorder))
+            }
+            Err(error) => Err(error),
+        }
+    }
+
+    /// Records a command on a recorder of the device, which is only read.
+    pub fn record(
+        &self,
+        recorder: &mut Recorder,
+        on: On,
+        command: &CommandOf<u64>,
+    ) -> Result<Noted, DeskError>
+        ensures done { IfOk result (λ answer. HasNoted self.now recorder.old recorder.new on command.now answer) }
+        ensures cause { IfErr result (λ error. IsCause error
+            (lacks self.now.desk recorder.old || any_missing self.now.desk.seats (command_named command.now))
+            (not (is_begun on recorder.old.passes))) }
+        ensures unchanged { OnErr result (recorder.new ≡ recorder.old) }
+    {
+        self.desk.record(recorder, on, command)
+    }
+
+    /// Tells the device that a command came late on a recorder of it.
+    #[tactic(auto, using(crate::proofs::Inside::came_late))]
+    pub fn late(&mut self, recorder: &Recorder) -> Result<ToldReply, DeskError>
+        ensures done { IfOk result (λ told. IsSomeAnd (encoder_on self.old.desk recorder.now) (λ encoder. HasComeLate self.old self.new encoder told)) }
+        ensures cause { IfErr result (λ error. IsCause error (lacks self.old.desk recorder.now) false) }
+        ensures unchanged { OnErr result (NothingHasChanged self.old self.new) }
+    {
+        if self.waiting.reserve().is_err() {
+            return Err(DeskError::NoMemory);
+        }
+        let entry = self.desk.len();
+        match self.desk.late(CALLER, recorder, &mut self.items) {
             Ok(reply) => {
                 let told = reply_told(&reply, entry, 0);
                 self.waiting.push(reply.settled);
@@ -132,45 +182,25 @@ impl Inner {
         }
     }
 
-    /// The number of the pass that a command begins on an encoder; 0 of one that begins none.
-    fn pass_of(&self, encoder: u64, command: &CommandOf<u64>) -> u32
-        ensures { result ≡ (if is_begin command.now then passes_at self.now.desk.seats encoder else 0) }
-    {
-        if command.is_begin() {
-            return self.desk.passes(encoder);
-        }
-        0
-    }
-
-    /// Records a command.
-    #[tactic(auto, using(crate::proofs::Inside::came_late, crate::proofs::Inside::was_kept))]
-    pub fn record(
-        &mut self,
-        encoder: u64,
-        on: On,
-        command: &CommandOf<u64>,
-    ) -> Result<ToldReply, DeskError>
-        ensures done { IfOk result (λ told. HasRecorded self.old self.new encoder on command.now told) }
-        ensures cause { IfErr result (λ error. IsCause error
-            (is_none (handle_at self.old.desk.seats encoder) || any_missing self.old.desk.seats (command_named command.now))
-            (is_unbegun self.old.desk.seats encoder on)) }
+    /// Ends the encoder of a recorder of the device.
+    #[tactic(auto, using(crate::proofs::Inside::finished_by))]
+    pub fn finish(&mut self, recorder: &mut Recorder) -> Result<ToldReply, DeskError>
+        ensures done { IfOk result (λ told. IsSomeAnd (encoder_on self.old.desk recorder.old) (λ encoder. HasFinished self.old self.new recorder.old encoder told)) }
+        ensures taken { OnOk result (recorder.new ≡ taken_out recorder.old) }
+        ensures cause { IfErr result (λ error. IsCause error (lacks self.old.desk recorder.old) false) }
         ensures unchanged { OnErr result (NothingHasChanged self.old self.new) }
+        ensures held { OnErr result (IsHeld recorder.old recorder.new) }
     {
         if self.waiting.reserve().is_err() {
             return Err(DeskError::NoMemory);
         }
-        let pass = self.pass_of(encoder, command);
         let entry = self.desk.len();
-        match self
-            .desk
-            .record(CALLER, encoder, on, command, &mut self.items)
-        {
-            Ok(Some(reply)) => {
-                let told = reply_told(&reply, entry, pass);
+        match self.desk.finish(CALLER, recorder, &mut self.items) {
+            Ok(reply) => {
+                let told = reply_told(&reply, entry, 0);
                 self.waiting.push(reply.settled);
                 Ok(told)
             }
-            Ok(None) => Ok(kept_told(pass)),
             Err(error) => Err(error),
         }
     }

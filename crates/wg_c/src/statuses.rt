@@ -17,3 +17,5 @@ pub const END: u32 = 6;
 pub const IS_OPEN: u32 = 7;
 
 pub const NO_ROOM: u32 = 8;
+
+pub const LATE: u32 = 9;

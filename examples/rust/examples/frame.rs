@@ -4,9 +4,7 @@ use wethlorn::*;
 
 /// Prints what a call answered, and what a driver has to do for it.
 fn told(device: &mut Device, call: &str, reply: Reply) -> Reply {
-    if reply.answer != Answer::Kept {
-        println!("{call}: {:?} {:?}", reply.answer, reply.fault);
-    }
+    println!("{call}: {:?} {:?}", reply.answer, reply.fault);
     while let Some(settled) = device.next_settlement() {
         println!("    {settled:?}");
     }
@@ -106,7 +104,7 @@ fn write(device: &mut Device, texture: u64) -> Result<(), Error> {
 }
 
 /// What a pass draws from here on is drawn to the upper half alone.
-fn keep_to_upper_half(device: &mut Device, encoder: u64, pass: u32) -> Result<(), Error> {
+fn keep_to_upper_half(device: &Device, encoder: &mut Encoder, pass: u32) -> Result<(), Error> {
     let viewport = Viewport {
         width: 4 * FIXED_ONE,
         height: 2 * FIXED_ONE,
@@ -119,8 +117,8 @@ fn keep_to_upper_half(device: &mut Device, encoder: u64, pass: u32) -> Result<()
 
 /// Records the pass and the copy, and submits them. Gives the number of the operation.
 fn draw(device: &mut Device, target: u64, color: u64, drawn: (u64, u64), read: u64) -> Result<u64, Error> {
-    let reply = device.create_encoder()?;
-    let encoder = number(told(device, "createEncoder", reply));
+    let (mut encoder, reply) = device.create_encoder()?;
+    told(device, "createEncoder", reply);
     let color = Color {
         view: color,
         depth_slice: NONE,
@@ -132,12 +130,12 @@ fn draw(device: &mut Device, target: u64, color: u64, drawn: (u64, u64), read: u
         view: NONE,
         ..Depth::default()
     };
-    let (pass, _) = device.begin_render_pass(encoder, &[color], &depth, NONE, NONE)?;
-    keep_to_upper_half(device, encoder, pass)?;
-    device.set_pipeline(encoder, pass, drawn.0)?;
-    device.set_bind_group(encoder, pass, 0, drawn.1, &[])?;
-    device.draw(encoder, pass, 3, 1, 0, 0)?;
-    device.end(encoder, pass)?;
+    let pass = device.begin_render_pass(&mut encoder, &[color], &depth, NONE, NONE)?;
+    keep_to_upper_half(device, &mut encoder, pass)?;
+    device.set_pipeline(&mut encoder, pass, drawn.0)?;
+    device.set_bind_group(&mut encoder, pass, 0, drawn.1, &[])?;
+    device.draw(&mut encoder, pass, 3, 1, 0, 0)?;
+    device.end(&mut encoder, pass)?;
     let copy = TexelCopy {
         buffer: read,
         layout: TexelLayout {
@@ -156,8 +154,8 @@ fn draw(device: &mut Device, target: u64, color: u64, drawn: (u64, u64), read: u
             depth: 1,
         },
     };
-    device.copy_texture_to_buffer(encoder, &copy)?;
-    let reply = device.finish(encoder)?;
+    device.copy_texture_to_buffer(&mut encoder, &copy)?;
+    let reply = device.finish(&mut encoder)?;
     let commands = number(told(device, "finish", reply));
     let reply = device.submit(&[commands])?;
     match told(device, "submit", reply).answer {

@@ -17,9 +17,39 @@ pub struct Device {
 
 /// # Safety
 ///
-/// What lies behind the pointer belongs to the device alone, and the interface lets it be used by any thread, one at a time. It may not
-/// be shared: the pointer has it that a device is not `Sync`.
+/// What lies behind the pointer belongs to the device alone, and the interface lets it be used by any thread.
 unsafe impl Send for Device {}
+
+/// # Safety
+///
+/// What takes a device by `&self` only records, and the interface lets many threads do so at once, each on an encoder of its own.
+unsafe impl Sync for Device {}
+
+/// An encoder or a bundle encoder, with what was recorded on it.
+pub struct Encoder {
+    raw: raw::Encoder,
+}
+
+/// # Safety
+///
+/// What lies behind the pointer belongs to the encoder alone, and the interface lets it be used by any thread, one at a time.
+unsafe impl Send for Encoder {}
+
+/// Frees what was recorded. The device does not know of it: `drop_object` lets go of the encoder's number.
+impl Drop for Encoder {
+    fn drop(&mut self) {
+        unsafe { raw::wethlorn_close_encoder(&mut self.raw) };
+    }
+}
+
+/// An encoder that a call makes, and its reply.
+fn opened(call: impl FnOnce(&mut raw::Encoder, &mut raw::Reply) -> u32) -> Result<(Encoder, Reply), Error> {
+    let mut encoder = Encoder {
+        raw: raw::Encoder { inside: ptr::null_mut() },
+    };
+    let reply = told(|out| call(&mut encoder.raw, out))?;
+    Ok((encoder, reply))
+}
 
 /// Arrays that a device fills.
 struct Room {
@@ -84,16 +114,25 @@ impl Room {
 
 /// The reply to a call, or why it was not made.
 fn told(call: impl FnOnce(&mut raw::Reply) -> u32) -> Result<Reply, Error> {
-    begun(call).map(|(_, reply)| reply)
-}
-
-/// The number of the pass that a call begins, and its reply.
-fn begun(call: impl FnOnce(&mut raw::Reply) -> u32) -> Result<(u32, Reply), Error> {
     let mut out = raw::Reply::default();
     match call(&mut out) {
-        told::OK => Ok((out.pass, told::reply(&out))),
+        told::OK => Ok(told::reply(&out)),
         status => Err(told::error(status)),
     }
+}
+
+/// Whether a command was kept, or why not.
+fn recorded(status: u32) -> Result<(), Error> {
+    match status {
+        told::OK => Ok(()),
+        status => Err(told::error(status)),
+    }
+}
+
+/// The number of the pass that a command begins, where it was kept.
+fn begun(call: impl FnOnce(&mut u32) -> u32) -> Result<u32, Error> {
+    let mut pass = 0;
+    recorded(call(&mut pass)).map(|()| pass)
 }
 
 impl Device {
@@ -271,20 +310,28 @@ impl Device {
         told(|out| unsafe { raw::wethlorn_create_query_set(&mut self.raw, count, out) })
     }
 
-    /// Makes an encoder (createCommandEncoder).
-    pub fn create_encoder(&mut self) -> Result<Reply, Error> {
-        told(|out| unsafe { raw::wethlorn_create_encoder(&mut self.raw, out) })
+    /// Makes an encoder (createCommandEncoder), which the reply gives as an object.
+    pub fn create_encoder(&mut self) -> Result<(Encoder, Reply), Error> {
+        opened(|encoder, out| unsafe { raw::wethlorn_create_encoder(&mut self.raw, encoder, out) })
     }
 
     /// Makes a bundle encoder (createRenderBundleEncoder). `colors` are formats, of which each may be 0.
-    pub fn create_bundle_encoder(&mut self, desc: &BundleDesc, colors: &[u32]) -> Result<Reply, Error> {
-        told(|out| unsafe { raw::wethlorn_create_bundle_encoder(&mut self.raw, desc, colors.as_ptr(), colors.len(), out) })
+    pub fn create_bundle_encoder(&mut self, desc: &BundleDesc, colors: &[u32]) -> Result<(Encoder, Reply), Error> {
+        opened(|encoder, out| unsafe {
+            raw::wethlorn_create_bundle_encoder(&mut self.raw, desc, colors.as_ptr(), colors.len(), encoder, out)
+        })
     }
 
     /// Ends an encoder, and makes a command buffer of what was recorded on it (finish); or ends a bundle encoder, and makes a bundle.
-    pub fn finish(&mut self, encoder: u64) -> Result<Reply, Error> {
-        told(|out| unsafe { raw::wethlorn_finish(&mut self.raw, encoder, out) })
+    pub fn finish(&mut self, encoder: &mut Encoder) -> Result<Reply, Error> {
+        told(|out| unsafe { raw::wethlorn_finish(&mut self.raw, &mut encoder.raw, out) })
     }
+
+    /// Tells the device that a command came late on an encoder, which its recording has answered by [`Error::Late`].
+    pub fn late(&mut self, encoder: &mut Encoder) -> Result<Reply, Error> {
+        told(|out| unsafe { raw::wethlorn_late(&mut self.raw, &mut encoder.raw, out) })
+    }
+
 
     /// Queues command buffers as one operation (submit).
     pub fn submit(&mut self, buffers: &[u64]) -> Result<Reply, Error> {
@@ -346,241 +393,238 @@ impl Device {
         told(|out| unsafe { raw::wethlorn_lose(&mut self.raw, out) })
     }
 
-    /// Begins a compute pass (beginComputePass); `out->pass` is its number.
-    pub fn begin_compute_pass(&mut self, encoder: u64) -> Result<(u32, Reply), Error> {
-        begun(|out| unsafe { raw::wethlorn_begin_compute_pass(&mut self.raw, encoder, out) })
+    /// Begins a compute pass (beginComputePass), whose number it gives.
+    pub fn begin_compute_pass(&self, encoder: &mut Encoder) -> Result<u32, Error> {
+        begun(|pass| unsafe { raw::wethlorn_begin_compute_pass(&self.raw, &mut encoder.raw, pass) })
     }
 
-    /// Begins a render pass (beginRenderPass); `out->pass` is its number. `colors` stand by slot. `queries` is the query set of its occlusion queries, or NONE. `max_draws` is how often it may draw (maxDrawCount), or NONE.
+    /// Begins a render pass (beginRenderPass), whose number it gives. `colors` stand by slot. `queries` is the query set of its occlusion queries, or NONE. `max_draws` is how often it may draw (maxDrawCount), or NONE.
     pub fn begin_render_pass(
-        &mut self,
-        encoder: u64,
+        &self,
+        encoder: &mut Encoder,
         colors: &[Color],
         depth: &Depth,
         queries: u64,
         max_draws: u64,
-    ) -> Result<(u32, Reply), Error> {
-        begun(|out| unsafe {
+    ) -> Result<u32, Error> {
+        begun(|pass| unsafe {
             raw::wethlorn_begin_render_pass(
-                &mut self.raw,
-                encoder,
+                &self.raw,
+                &mut encoder.raw,
                 colors.as_ptr(),
                 colors.len(),
                 depth,
                 queries,
                 max_draws,
-                out,
+                pass,
             )
         })
     }
 
     /// Ends a pass (end).
-    pub fn end(&mut self, encoder: u64, pass: u32) -> Result<Reply, Error> {
-        told(|out| unsafe { raw::wethlorn_end(&mut self.raw, encoder, pass, out) })
+    pub fn end(&self, encoder: &mut Encoder, pass: u32) -> Result<(), Error> {
+        recorded(unsafe { raw::wethlorn_end(&self.raw, &mut encoder.raw, pass) })
     }
 
     /// Opens a debug group of an encoder, a pass or a bundle encoder (pushDebugGroup).
-    pub fn push_debug_group(&mut self, encoder: u64, pass: u32) -> Result<Reply, Error> {
-        told(|out| unsafe { raw::wethlorn_push_debug_group(&mut self.raw, encoder, pass, out) })
+    pub fn push_debug_group(&self, encoder: &mut Encoder, pass: u32) -> Result<(), Error> {
+        recorded(unsafe { raw::wethlorn_push_debug_group(&self.raw, &mut encoder.raw, pass) })
     }
 
     /// Closes the debug group that was opened last (popDebugGroup).
-    pub fn pop_debug_group(&mut self, encoder: u64, pass: u32) -> Result<Reply, Error> {
-        told(|out| unsafe { raw::wethlorn_pop_debug_group(&mut self.raw, encoder, pass, out) })
+    pub fn pop_debug_group(&self, encoder: &mut Encoder, pass: u32) -> Result<(), Error> {
+        recorded(unsafe { raw::wethlorn_pop_debug_group(&self.raw, &mut encoder.raw, pass) })
     }
 
     /// Marks a place of an encoder, a pass or a bundle encoder (insertDebugMarker).
-    pub fn insert_debug_marker(&mut self, encoder: u64, pass: u32) -> Result<Reply, Error> {
-        told(|out| unsafe { raw::wethlorn_insert_debug_marker(&mut self.raw, encoder, pass, out) })
+    pub fn insert_debug_marker(&self, encoder: &mut Encoder, pass: u32) -> Result<(), Error> {
+        recorded(unsafe { raw::wethlorn_insert_debug_marker(&self.raw, &mut encoder.raw, pass) })
     }
 
     /// Records a copy of bytes (copyBufferToBuffer).
-    pub fn copy_buffer_to_buffer(&mut self, encoder: u64, copy: &BufferCopy) -> Result<Reply, Error> {
-        told(|out| unsafe { raw::wethlorn_copy_buffer_to_buffer(&mut self.raw, encoder, copy, out) })
+    pub fn copy_buffer_to_buffer(&self, encoder: &mut Encoder, copy: &BufferCopy) -> Result<(), Error> {
+        recorded(unsafe { raw::wethlorn_copy_buffer_to_buffer(&self.raw, &mut encoder.raw, copy) })
     }
 
     /// Records a copy from a buffer to a texture (copyBufferToTexture).
-    pub fn copy_buffer_to_texture(&mut self, encoder: u64, copy: &TexelCopy) -> Result<Reply, Error> {
-        told(|out| unsafe { raw::wethlorn_copy_buffer_to_texture(&mut self.raw, encoder, copy, out) })
+    pub fn copy_buffer_to_texture(&self, encoder: &mut Encoder, copy: &TexelCopy) -> Result<(), Error> {
+        recorded(unsafe { raw::wethlorn_copy_buffer_to_texture(&self.raw, &mut encoder.raw, copy) })
     }
 
     /// Records a copy from a texture to a buffer (copyTextureToBuffer).
-    pub fn copy_texture_to_buffer(&mut self, encoder: u64, copy: &TexelCopy) -> Result<Reply, Error> {
-        told(|out| unsafe { raw::wethlorn_copy_texture_to_buffer(&mut self.raw, encoder, copy, out) })
+    pub fn copy_texture_to_buffer(&self, encoder: &mut Encoder, copy: &TexelCopy) -> Result<(), Error> {
+        recorded(unsafe { raw::wethlorn_copy_texture_to_buffer(&self.raw, &mut encoder.raw, copy) })
     }
 
     /// Records a copy between textures (copyTextureToTexture).
-    pub fn copy_texture_to_texture(&mut self, encoder: u64, copy: &TextureCopy) -> Result<Reply, Error> {
-        told(|out| unsafe { raw::wethlorn_copy_texture_to_texture(&mut self.raw, encoder, copy, out) })
+    pub fn copy_texture_to_texture(&self, encoder: &mut Encoder, copy: &TextureCopy) -> Result<(), Error> {
+        recorded(unsafe { raw::wethlorn_copy_texture_to_texture(&self.raw, &mut encoder.raw, copy) })
     }
 
     /// Records that bytes of a buffer are set to zero (clearBuffer). `size` may be NONE.
-    pub fn clear_buffer(&mut self, encoder: u64, buffer: u64, offset: u64, size: u64) -> Result<Reply, Error> {
-        told(|out| unsafe { raw::wethlorn_clear_buffer(&mut self.raw, encoder, buffer, offset, size, out) })
+    pub fn clear_buffer(&self, encoder: &mut Encoder, buffer: u64, offset: u64, size: u64) -> Result<(), Error> {
+        recorded(unsafe { raw::wethlorn_clear_buffer(&self.raw, &mut encoder.raw, buffer, offset, size) })
     }
 
     /// Records that results of queries are written to a buffer (resolveQuerySet).
     pub fn resolve_query_set(
-        &mut self,
-        encoder: u64,
+        &self,
+        encoder: &mut Encoder,
         queries: u64,
         first: u32,
         count: u32,
         buffer: u64,
         offset: u64,
-    ) -> Result<Reply, Error> {
-        told(|out| unsafe { raw::wethlorn_resolve_query_set(&mut self.raw, encoder, queries, first, count, buffer, offset, out) })
+    ) -> Result<(), Error> {
+        recorded(unsafe { raw::wethlorn_resolve_query_set(&self.raw, &mut encoder.raw, queries, first, count, buffer, offset) })
     }
 
     /// Sets the pipeline of a pass or a bundle (setPipeline).
-    pub fn set_pipeline(&mut self, encoder: u64, pass: u32, pipeline: u64) -> Result<Reply, Error> {
-        told(|out| unsafe { raw::wethlorn_set_pipeline(&mut self.raw, encoder, pass, pipeline, out) })
+    pub fn set_pipeline(&self, encoder: &mut Encoder, pass: u32, pipeline: u64) -> Result<(), Error> {
+        recorded(unsafe { raw::wethlorn_set_pipeline(&self.raw, &mut encoder.raw, pass, pipeline) })
     }
 
     /// Sets a bind group of a pass or a bundle (setBindGroup), with an offset for each of its dynamic buffers. `group` may be NONE, which is
     /// null and unsets the one that is set.
-    pub fn set_bind_group(&mut self, encoder: u64, pass: u32, index: u32, group: u64, offsets: &[u32]) -> Result<Reply, Error> {
-        told(|out| unsafe {
+    pub fn set_bind_group(&self, encoder: &mut Encoder, pass: u32, index: u32, group: u64, offsets: &[u32]) -> Result<(), Error> {
+        recorded(unsafe {
             raw::wethlorn_set_bind_group(
-                &mut self.raw,
-                encoder,
+                &self.raw,
+                &mut encoder.raw,
                 pass,
                 index,
                 group,
                 offsets.as_ptr(),
                 offsets.len(),
-                out,
             )
         })
     }
 
     /// Records a dispatch (dispatchWorkgroups).
-    pub fn dispatch(&mut self, encoder: u64, pass: u32, x: u32, y: u32, z: u32) -> Result<Reply, Error> {
-        told(|out| unsafe { raw::wethlorn_dispatch(&mut self.raw, encoder, pass, x, y, z, out) })
+    pub fn dispatch(&self, encoder: &mut Encoder, pass: u32, x: u32, y: u32, z: u32) -> Result<(), Error> {
+        recorded(unsafe { raw::wethlorn_dispatch(&self.raw, &mut encoder.raw, pass, x, y, z) })
     }
 
     /// Records a dispatch whose counts stand in a buffer (dispatchWorkgroupsIndirect).
-    pub fn dispatch_indirect(&mut self, encoder: u64, pass: u32, buffer: u64, offset: u64) -> Result<Reply, Error> {
-        told(|out| unsafe { raw::wethlorn_dispatch_indirect(&mut self.raw, encoder, pass, buffer, offset, out) })
+    pub fn dispatch_indirect(&self, encoder: &mut Encoder, pass: u32, buffer: u64, offset: u64) -> Result<(), Error> {
+        recorded(unsafe { raw::wethlorn_dispatch_indirect(&self.raw, &mut encoder.raw, pass, buffer, offset) })
     }
 
     /// Sets a vertex buffer (setVertexBuffer). `size` may be NONE. `buffer` may be NONE, which is null and unsets the one that is set.
     pub fn set_vertex_buffer(
-        &mut self,
-        encoder: u64,
+        &self,
+        encoder: &mut Encoder,
         pass: u32,
         slot: u32,
         buffer: u64,
         offset: u64,
         size: u64,
-    ) -> Result<Reply, Error> {
-        told(|out| unsafe { raw::wethlorn_set_vertex_buffer(&mut self.raw, encoder, pass, slot, buffer, offset, size, out) })
+    ) -> Result<(), Error> {
+        recorded(unsafe { raw::wethlorn_set_vertex_buffer(&self.raw, &mut encoder.raw, pass, slot, buffer, offset, size) })
     }
 
     /// Sets the index buffer (setIndexBuffer). `size` may be NONE.
     pub fn set_index_buffer(
-        &mut self,
-        encoder: u64,
+        &self,
+        encoder: &mut Encoder,
         pass: u32,
         buffer: u64,
         format: u32,
         offset: u64,
         size: u64,
-    ) -> Result<Reply, Error> {
-        told(|out| unsafe { raw::wethlorn_set_index_buffer(&mut self.raw, encoder, pass, buffer, format, offset, size, out) })
+    ) -> Result<(), Error> {
+        recorded(unsafe { raw::wethlorn_set_index_buffer(&self.raw, &mut encoder.raw, pass, buffer, format, offset, size) })
     }
 
     /// Records a draw (draw).
     pub fn draw(
-        &mut self,
-        encoder: u64,
+        &self,
+        encoder: &mut Encoder,
         pass: u32,
         vertices: u32,
         instances: u32,
         first_vertex: u32,
         first_instance: u32,
-    ) -> Result<Reply, Error> {
-        told(|out| unsafe {
+    ) -> Result<(), Error> {
+        recorded(unsafe {
             raw::wethlorn_draw(
-                &mut self.raw,
-                encoder,
+                &self.raw,
+                &mut encoder.raw,
                 pass,
                 vertices,
                 instances,
                 first_vertex,
                 first_instance,
-                out,
             )
         })
     }
 
     /// Records a draw by the index buffer (drawIndexed).
     pub fn draw_indexed(
-        &mut self,
-        encoder: u64,
+        &self,
+        encoder: &mut Encoder,
         pass: u32,
         indices: u32,
         instances: u32,
         first_index: u32,
         first_instance: u32,
-    ) -> Result<Reply, Error> {
-        told(|out| unsafe {
+    ) -> Result<(), Error> {
+        recorded(unsafe {
             raw::wethlorn_draw_indexed(
-                &mut self.raw,
-                encoder,
+                &self.raw,
+                &mut encoder.raw,
                 pass,
                 indices,
                 instances,
                 first_index,
                 first_instance,
-                out,
             )
         })
     }
 
     /// Records a draw whose numbers stand in a buffer (drawIndirect).
-    pub fn draw_indirect(&mut self, encoder: u64, pass: u32, buffer: u64, offset: u64) -> Result<Reply, Error> {
-        told(|out| unsafe { raw::wethlorn_draw_indirect(&mut self.raw, encoder, pass, buffer, offset, out) })
+    pub fn draw_indirect(&self, encoder: &mut Encoder, pass: u32, buffer: u64, offset: u64) -> Result<(), Error> {
+        recorded(unsafe { raw::wethlorn_draw_indirect(&self.raw, &mut encoder.raw, pass, buffer, offset) })
     }
 
     /// Records an indexed draw whose numbers stand in a buffer (drawIndexedIndirect).
-    pub fn draw_indexed_indirect(&mut self, encoder: u64, pass: u32, buffer: u64, offset: u64) -> Result<Reply, Error> {
-        told(|out| unsafe { raw::wethlorn_draw_indexed_indirect(&mut self.raw, encoder, pass, buffer, offset, out) })
+    pub fn draw_indexed_indirect(&self, encoder: &mut Encoder, pass: u32, buffer: u64, offset: u64) -> Result<(), Error> {
+        recorded(unsafe { raw::wethlorn_draw_indexed_indirect(&self.raw, &mut encoder.raw, pass, buffer, offset) })
     }
 
     /// Sets the viewport of a render pass (setViewport).
-    pub fn set_viewport(&mut self, encoder: u64, pass: u32, viewport: &Viewport) -> Result<Reply, Error> {
-        told(|out| unsafe { raw::wethlorn_set_viewport(&mut self.raw, encoder, pass, viewport, out) })
+    pub fn set_viewport(&self, encoder: &mut Encoder, pass: u32, viewport: &Viewport) -> Result<(), Error> {
+        recorded(unsafe { raw::wethlorn_set_viewport(&self.raw, &mut encoder.raw, pass, viewport) })
     }
 
     /// Sets the scissor rectangle of a render pass (setScissorRect), in texels.
-    pub fn set_scissor_rect(&mut self, encoder: u64, pass: u32, x: u32, y: u32, width: u32, height: u32) -> Result<Reply, Error> {
-        told(|out| unsafe { raw::wethlorn_set_scissor_rect(&mut self.raw, encoder, pass, x, y, width, height, out) })
+    pub fn set_scissor_rect(&self, encoder: &mut Encoder, pass: u32, x: u32, y: u32, width: u32, height: u32) -> Result<(), Error> {
+        recorded(unsafe { raw::wethlorn_set_scissor_rect(&self.raw, &mut encoder.raw, pass, x, y, width, height) })
     }
 
     /// Sets the blend constant of a render pass (setBlendConstant). The color is no matter of this call.
-    pub fn set_blend_constant(&mut self, encoder: u64, pass: u32) -> Result<Reply, Error> {
-        told(|out| unsafe { raw::wethlorn_set_blend_constant(&mut self.raw, encoder, pass, out) })
+    pub fn set_blend_constant(&self, encoder: &mut Encoder, pass: u32) -> Result<(), Error> {
+        recorded(unsafe { raw::wethlorn_set_blend_constant(&self.raw, &mut encoder.raw, pass) })
     }
 
     /// Sets the stencil reference of a render pass (setStencilReference). The reference is no matter of this call.
-    pub fn set_stencil_reference(&mut self, encoder: u64, pass: u32) -> Result<Reply, Error> {
-        told(|out| unsafe { raw::wethlorn_set_stencil_reference(&mut self.raw, encoder, pass, out) })
+    pub fn set_stencil_reference(&self, encoder: &mut Encoder, pass: u32) -> Result<(), Error> {
+        recorded(unsafe { raw::wethlorn_set_stencil_reference(&self.raw, &mut encoder.raw, pass) })
     }
 
     /// Begins an occlusion query (beginOcclusionQuery).
-    pub fn begin_occlusion_query(&mut self, encoder: u64, pass: u32, index: u32) -> Result<Reply, Error> {
-        told(|out| unsafe { raw::wethlorn_begin_occlusion_query(&mut self.raw, encoder, pass, index, out) })
+    pub fn begin_occlusion_query(&self, encoder: &mut Encoder, pass: u32, index: u32) -> Result<(), Error> {
+        recorded(unsafe { raw::wethlorn_begin_occlusion_query(&self.raw, &mut encoder.raw, pass, index) })
     }
 
     /// Ends the occlusion query that was begun last (endOcclusionQuery).
-    pub fn end_occlusion_query(&mut self, encoder: u64, pass: u32) -> Result<Reply, Error> {
-        told(|out| unsafe { raw::wethlorn_end_occlusion_query(&mut self.raw, encoder, pass, out) })
+    pub fn end_occlusion_query(&self, encoder: &mut Encoder, pass: u32) -> Result<(), Error> {
+        recorded(unsafe { raw::wethlorn_end_occlusion_query(&self.raw, &mut encoder.raw, pass) })
     }
 
     /// Executes bundles in a render pass, one after another (executeBundles).
-    pub fn execute_bundles(&mut self, encoder: u64, pass: u32, bundles: &[u64]) -> Result<Reply, Error> {
-        told(|out| unsafe { raw::wethlorn_execute_bundles(&mut self.raw, encoder, pass, bundles.as_ptr(), bundles.len(), out) })
+    pub fn execute_bundles(&self, encoder: &mut Encoder, pass: u32, bundles: &[u64]) -> Result<(), Error> {
+        recorded(unsafe { raw::wethlorn_execute_bundles(&self.raw, &mut encoder.raw, pass, bundles.as_ptr(), bundles.len()) })
     }
 }
 

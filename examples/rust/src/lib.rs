@@ -17,12 +17,18 @@
 //! # }
 //! ```
 //!
-//! Two threads share a device by a lock around it, and not without one. One lock spans a call, the drain of what comes of it and the doing of
-//! its items: the barriers hold of the order in which the items are told.
+//! Threads share a device by a `RwLock` around it: a recording call takes `&Device`, so that many may record at once, each on an encoder of its
+//! own, and all other calls take `&mut Device`. Held for writing the lock spans a call, the drain of what comes of it and the doing of its items:
+//! the barriers hold of the order in which the items are told.
+//!
+//! ```
+//! fn shared<T: Sync>() {}
+//! shared::<wethlorn::Device>();
+//! ```
 //!
 //! ```compile_fail
 //! fn shared<T: Sync>() {}
-//! shared::<wethlorn::Device>();
+//! shared::<wethlorn::Encoder>();
 //! ```
 
 mod defaults;
@@ -32,7 +38,7 @@ mod rules;
 mod told;
 mod values;
 
-pub use device::{version, Device};
+pub use device::{version, Device, Encoder};
 pub use rules::{rule_section, rule_text};
 pub use told::{
     Access, Answer, Aspect, Cells, Error, Fault, FaultKind, How, Item, Left, Part, Place, Reply, Settlement, StepName, Use,

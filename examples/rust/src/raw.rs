@@ -9,6 +9,11 @@ pub struct Device {
 }
 
 #[repr(C)]
+pub struct Encoder {
+    pub inside: *mut c_void,
+}
+
+#[repr(C)]
 #[derive(Clone, Copy, Default)]
 pub struct Reply {
     pub entry: u64,
@@ -160,15 +165,18 @@ extern "C" {
     ) -> u32;
     pub fn wethlorn_get_bind_group_layout(device: *mut Device, pipeline: u64, index: u32, out: *mut Reply) -> u32;
     pub fn wethlorn_create_query_set(device: *mut Device, count: u32, out: *mut Reply) -> u32;
-    pub fn wethlorn_create_encoder(device: *mut Device, out: *mut Reply) -> u32;
+    pub fn wethlorn_create_encoder(device: *mut Device, encoder: *mut Encoder, out: *mut Reply) -> u32;
     pub fn wethlorn_create_bundle_encoder(
         device: *mut Device,
         desc: *const BundleDesc,
         colors: *const u32,
         colors_count: usize,
+        encoder: *mut Encoder,
         out: *mut Reply,
     ) -> u32;
-    pub fn wethlorn_finish(device: *mut Device, encoder: u64, out: *mut Reply) -> u32;
+    pub fn wethlorn_finish(device: *mut Device, encoder: *mut Encoder, out: *mut Reply) -> u32;
+    pub fn wethlorn_late(device: *mut Device, encoder: *mut Encoder, out: *mut Reply) -> u32;
+    pub fn wethlorn_close_encoder(encoder: *mut Encoder) -> u32;
     pub fn wethlorn_submit(device: *mut Device, buffers: *const u64, buffers_count: usize, out: *mut Reply) -> u32;
     pub fn wethlorn_write_buffer(device: *mut Device, buffer: u64, offset: u64, size: u64, out: *mut Reply) -> u32;
     pub fn wethlorn_write_texture(device: *mut Device, write: *const TextureWrite, out: *mut Reply) -> u32;
@@ -181,129 +189,119 @@ extern "C" {
     pub fn wethlorn_push_error_scope(device: *mut Device, filter: u32, out: *mut Reply) -> u32;
     pub fn wethlorn_pop_error_scope(device: *mut Device, out: *mut Reply) -> u32;
     pub fn wethlorn_lose(device: *mut Device, out: *mut Reply) -> u32;
-    pub fn wethlorn_begin_compute_pass(device: *mut Device, encoder: u64, out: *mut Reply) -> u32;
+    pub fn wethlorn_begin_compute_pass(device: *const Device, encoder: *mut Encoder, out: *mut u32) -> u32;
     pub fn wethlorn_begin_render_pass(
-        device: *mut Device,
-        encoder: u64,
+        device: *const Device,
+        encoder: *mut Encoder,
         colors: *const Color,
         colors_count: usize,
         depth: *const Depth,
         queries: u64,
         max_draws: u64,
-        out: *mut Reply,
+        out: *mut u32,
     ) -> u32;
-    pub fn wethlorn_end(device: *mut Device, encoder: u64, pass: u32, out: *mut Reply) -> u32;
-    pub fn wethlorn_push_debug_group(device: *mut Device, encoder: u64, pass: u32, out: *mut Reply) -> u32;
-    pub fn wethlorn_pop_debug_group(device: *mut Device, encoder: u64, pass: u32, out: *mut Reply) -> u32;
-    pub fn wethlorn_insert_debug_marker(device: *mut Device, encoder: u64, pass: u32, out: *mut Reply) -> u32;
-    pub fn wethlorn_copy_buffer_to_buffer(device: *mut Device, encoder: u64, copy: *const BufferCopy, out: *mut Reply) -> u32;
-    pub fn wethlorn_copy_buffer_to_texture(device: *mut Device, encoder: u64, copy: *const TexelCopy, out: *mut Reply) -> u32;
-    pub fn wethlorn_copy_texture_to_buffer(device: *mut Device, encoder: u64, copy: *const TexelCopy, out: *mut Reply) -> u32;
-    pub fn wethlorn_copy_texture_to_texture(device: *mut Device, encoder: u64, copy: *const TextureCopy, out: *mut Reply) -> u32;
-    pub fn wethlorn_clear_buffer(device: *mut Device, encoder: u64, buffer: u64, offset: u64, size: u64, out: *mut Reply) -> u32;
+    pub fn wethlorn_end(device: *const Device, encoder: *mut Encoder, pass: u32) -> u32;
+    pub fn wethlorn_push_debug_group(device: *const Device, encoder: *mut Encoder, pass: u32) -> u32;
+    pub fn wethlorn_pop_debug_group(device: *const Device, encoder: *mut Encoder, pass: u32) -> u32;
+    pub fn wethlorn_insert_debug_marker(device: *const Device, encoder: *mut Encoder, pass: u32) -> u32;
+    pub fn wethlorn_copy_buffer_to_buffer(device: *const Device, encoder: *mut Encoder, copy: *const BufferCopy) -> u32;
+    pub fn wethlorn_copy_buffer_to_texture(device: *const Device, encoder: *mut Encoder, copy: *const TexelCopy) -> u32;
+    pub fn wethlorn_copy_texture_to_buffer(device: *const Device, encoder: *mut Encoder, copy: *const TexelCopy) -> u32;
+    pub fn wethlorn_copy_texture_to_texture(device: *const Device, encoder: *mut Encoder, copy: *const TextureCopy) -> u32;
+    pub fn wethlorn_clear_buffer(device: *const Device, encoder: *mut Encoder, buffer: u64, offset: u64, size: u64) -> u32;
     pub fn wethlorn_resolve_query_set(
-        device: *mut Device,
-        encoder: u64,
+        device: *const Device,
+        encoder: *mut Encoder,
         queries: u64,
         first: u32,
         count: u32,
         buffer: u64,
         offset: u64,
-        out: *mut Reply,
     ) -> u32;
-    pub fn wethlorn_set_pipeline(device: *mut Device, encoder: u64, pass: u32, pipeline: u64, out: *mut Reply) -> u32;
+    pub fn wethlorn_set_pipeline(device: *const Device, encoder: *mut Encoder, pass: u32, pipeline: u64) -> u32;
     pub fn wethlorn_set_bind_group(
-        device: *mut Device,
-        encoder: u64,
+        device: *const Device,
+        encoder: *mut Encoder,
         pass: u32,
         index: u32,
         group: u64,
         offsets: *const u32,
         offsets_count: usize,
-        out: *mut Reply,
     ) -> u32;
-    pub fn wethlorn_dispatch(device: *mut Device, encoder: u64, pass: u32, x: u32, y: u32, z: u32, out: *mut Reply) -> u32;
+    pub fn wethlorn_dispatch(device: *const Device, encoder: *mut Encoder, pass: u32, x: u32, y: u32, z: u32) -> u32;
     pub fn wethlorn_dispatch_indirect(
-        device: *mut Device,
-        encoder: u64,
+        device: *const Device,
+        encoder: *mut Encoder,
         pass: u32,
         buffer: u64,
         offset: u64,
-        out: *mut Reply,
     ) -> u32;
     pub fn wethlorn_set_vertex_buffer(
-        device: *mut Device,
-        encoder: u64,
+        device: *const Device,
+        encoder: *mut Encoder,
         pass: u32,
         slot: u32,
         buffer: u64,
         offset: u64,
         size: u64,
-        out: *mut Reply,
     ) -> u32;
     pub fn wethlorn_set_index_buffer(
-        device: *mut Device,
-        encoder: u64,
+        device: *const Device,
+        encoder: *mut Encoder,
         pass: u32,
         buffer: u64,
         format: u32,
         offset: u64,
         size: u64,
-        out: *mut Reply,
     ) -> u32;
     pub fn wethlorn_draw(
-        device: *mut Device,
-        encoder: u64,
+        device: *const Device,
+        encoder: *mut Encoder,
         pass: u32,
         vertices: u32,
         instances: u32,
         first_vertex: u32,
         first_instance: u32,
-        out: *mut Reply,
     ) -> u32;
     pub fn wethlorn_draw_indexed(
-        device: *mut Device,
-        encoder: u64,
+        device: *const Device,
+        encoder: *mut Encoder,
         pass: u32,
         indices: u32,
         instances: u32,
         first_index: u32,
         first_instance: u32,
-        out: *mut Reply,
     ) -> u32;
-    pub fn wethlorn_draw_indirect(device: *mut Device, encoder: u64, pass: u32, buffer: u64, offset: u64, out: *mut Reply)
+    pub fn wethlorn_draw_indirect(device: *const Device, encoder: *mut Encoder, pass: u32, buffer: u64, offset: u64)
         -> u32;
     pub fn wethlorn_draw_indexed_indirect(
-        device: *mut Device,
-        encoder: u64,
+        device: *const Device,
+        encoder: *mut Encoder,
         pass: u32,
         buffer: u64,
         offset: u64,
-        out: *mut Reply,
     ) -> u32;
-    pub fn wethlorn_set_viewport(device: *mut Device, encoder: u64, pass: u32, viewport: *const Viewport, out: *mut Reply)
+    pub fn wethlorn_set_viewport(device: *const Device, encoder: *mut Encoder, pass: u32, viewport: *const Viewport)
         -> u32;
     pub fn wethlorn_set_scissor_rect(
-        device: *mut Device,
-        encoder: u64,
+        device: *const Device,
+        encoder: *mut Encoder,
         pass: u32,
         x: u32,
         y: u32,
         width: u32,
         height: u32,
-        out: *mut Reply,
     ) -> u32;
-    pub fn wethlorn_set_blend_constant(device: *mut Device, encoder: u64, pass: u32, out: *mut Reply) -> u32;
-    pub fn wethlorn_set_stencil_reference(device: *mut Device, encoder: u64, pass: u32, out: *mut Reply) -> u32;
-    pub fn wethlorn_begin_occlusion_query(device: *mut Device, encoder: u64, pass: u32, index: u32, out: *mut Reply) -> u32;
-    pub fn wethlorn_end_occlusion_query(device: *mut Device, encoder: u64, pass: u32, out: *mut Reply) -> u32;
+    pub fn wethlorn_set_blend_constant(device: *const Device, encoder: *mut Encoder, pass: u32) -> u32;
+    pub fn wethlorn_set_stencil_reference(device: *const Device, encoder: *mut Encoder, pass: u32) -> u32;
+    pub fn wethlorn_begin_occlusion_query(device: *const Device, encoder: *mut Encoder, pass: u32, index: u32) -> u32;
+    pub fn wethlorn_end_occlusion_query(device: *const Device, encoder: *mut Encoder, pass: u32) -> u32;
     pub fn wethlorn_execute_bundles(
-        device: *mut Device,
-        encoder: u64,
+        device: *const Device,
+        encoder: *mut Encoder,
         pass: u32,
         bundles: *const u64,
         bundles_count: usize,
-        out: *mut Reply,
     ) -> u32;
     pub fn wethlorn_next_item(device: *mut Device, out: *mut Item) -> u32;
     pub fn wethlorn_next_items(

@@ -18,6 +18,8 @@ pub enum Error {
     BadLimit(u64),
     /// No pass with this number was begun on the encoder.
     NoPass,
+    /// A command came after the end of its encoder or of its pass: [`crate::Device::late`] tells the device.
+    Late,
     /// A status that the interface has not, or not of this call.
     Status(u32),
 }
@@ -31,6 +33,7 @@ impl fmt::Display for Error {
             Error::BadBest(place) => write!(out, "no adapter supports the limit at place {place}"),
             Error::BadLimit(place) => write!(out, "the limit at place {place} cannot be asked of the adapter"),
             Error::NoPass => out.write_str("no pass has this number"),
+            Error::Late => out.write_str("the encoder or the pass has ended"),
             Error::Status(status) => write!(out, "status {status}"),
         }
     }
@@ -49,6 +52,7 @@ pub(crate) fn error(status: u32) -> Error {
         2 => Error::NoObject,
         BAD_VALUE => Error::BadValue,
         5 => Error::NoPass,
+        9 => Error::Late,
         other => Error::Status(other),
     }
 }

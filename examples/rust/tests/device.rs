@@ -114,8 +114,8 @@ fn what_is_left_out_of_a_descriptor_names_nothing() {
     assert_eq!(GroupEntry::default().object, NONE);
     assert_eq!((Color::default().view, Color::default().resolve), (NONE, NONE));
     let mut device = Device::open(1024, &[], &[]).unwrap();
-    let encoder = device.create_encoder().unwrap().object().unwrap();
-    let copy = device.copy_buffer_to_buffer(encoder, &BufferCopy::default());
+    let (mut encoder, _) = device.create_encoder().unwrap();
+    let copy = device.copy_buffer_to_buffer(&mut encoder, &BufferCopy::default());
     assert_eq!(copy.err(), Some(Error::NoObject));
     let usage = BufferUsage::COPY_DST | BufferUsage::VERTEX;
     assert!(device.create_buffer(&BufferDesc { usage, ..DESC }).unwrap().fault.is_none());
@@ -126,25 +126,25 @@ fn what_is_null_names_nothing() {
     let mut device = Device::open(1024, &[], &[]).unwrap();
     let layout = device.create_pipeline_layout(&[NONE, NONE]).unwrap().object().unwrap();
     let pipeline = device.create_compute_pipeline(layout, &[]).unwrap().object().unwrap();
-    let encoder = device.create_encoder().unwrap().object().unwrap();
-    let (pass, _) = device.begin_compute_pass(encoder).unwrap();
-    device.set_pipeline(encoder, pass, pipeline).unwrap();
-    device.set_bind_group(encoder, pass, 0, NONE, &[]).unwrap();
-    device.dispatch(encoder, pass, 1, 1, 1).unwrap();
-    device.insert_debug_marker(encoder, pass).unwrap();
-    device.end(encoder, pass).unwrap();
-    assert_eq!(device.finish(encoder).unwrap().fault, None);
+    let (mut encoder, _) = device.create_encoder().unwrap();
+    let pass = device.begin_compute_pass(&mut encoder).unwrap();
+    device.set_pipeline(&mut encoder, pass, pipeline).unwrap();
+    device.set_bind_group(&mut encoder, pass, 0, NONE, &[]).unwrap();
+    device.dispatch(&mut encoder, pass, 1, 1, 1).unwrap();
+    device.insert_debug_marker(&mut encoder, pass).unwrap();
+    device.end(&mut encoder, pass).unwrap();
+    assert_eq!(device.finish(&mut encoder).unwrap().fault, None);
 }
 
 #[test]
 fn values_out_of_range_are_errors() {
     let mut device = Device::open(1024, &[], &[]).unwrap();
     assert_eq!(device.push_error_scope(0), Err(Error::BadValue));
-    let encoder = device.create_encoder().unwrap().object().unwrap();
-    assert_eq!(device.end(encoder, 3), Err(Error::NoPass));
+    let (mut encoder, _) = device.create_encoder().unwrap();
+    assert_eq!(device.end(&mut encoder, 3), Err(Error::NoPass));
     let left = 2;
     let viewport = device.set_viewport(
-        encoder,
+        &mut encoder,
         0,
         &Viewport {
             left,
@@ -218,5 +218,23 @@ fn all_items_are_those_that_are_told_one_by_one() {
         let singly: Vec<Item> = std::iter::from_fn(|| device.next_item()).collect();
         assert!(singly.len() as u64 >= count);
         assert_eq!(played(count).items(), singly);
+    }
+}
+
+#[test]
+fn threads_record_at_once() {
+    let mut device = Device::open(1024, &[], &[]).unwrap();
+    let buffer = device.create_buffer(&DESC).unwrap().object().unwrap();
+    let mut encoders: Vec<_> = (0..4).map(|_| device.create_encoder().unwrap().0).collect();
+    let shared = &device;
+    thread::scope(|scope| {
+        for encoder in &mut encoders {
+            scope.spawn(move || shared.clear_buffer(encoder, buffer, 0, 4).unwrap());
+        }
+    });
+    for encoder in &mut encoders {
+        assert_eq!(device.finish(encoder).unwrap().fault, None);
+        assert_eq!(device.clear_buffer(encoder, buffer, 0, 4), Err(Error::Late));
+        assert_eq!(device.late(encoder).unwrap().fault.map(|fault| fault.rule), Some(14));
     }
 }
