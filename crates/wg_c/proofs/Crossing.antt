@@ -1,6 +1,6 @@
 -- What is known of a device before and after a call of what lies behind it.
 use Rattle.std.proofs.Common.{◌≡◌, ◌⊎◌, inl, inr, ℕ, true, false, Option, Some, None, refl, ap, sym, subst, ◌∙◌}
-use Rattle.std.specs.Prelude.{is_none, MatchOption}
+use Rattle.std.specs.Prelude.{is_none}
 use Rattle.std.specs.Option.{is_some}
 use Rattle.wg_types.specs.declared.commands.CommandOf.{CommandOf}
 use Rattle.wg_types.specs.declared.commands.On.{On}
@@ -8,7 +8,7 @@ use Rattle.wg_types.specs.declared.requests.RequestOf.{RequestOf}
 use Rattle.wg_encoder.specs.Recorders.{RecorderValue}
 use Rattle.wg_told.specs.declared.replies.ToldReply.{ToldReply}
 use Rattle.wg_c.specs.Inners.{InnerValue, NothingHasChanged}
-use Rattle.wg_c.specs.Exports.{Over, IsShut, IsNotMade, AsksOpen, Asks, recorder_by, MakesOpen, Makes, Between, AreShut, FinishesOpen, Finishes, TellsLateOpen, TellsLate, Beside, RecordsOpen, Records}
+use Rattle.wg_c.specs.Exports.{Over, IsShut, AsksOpen, Asks, recorder_by, MakesOpen, Makes, Between, AreShut, FinishesOpen, Finishes, TellsLateOpen, TellsLate, Beside, RecordsOpen, Records}
 
 pub is_there : (i : Option InnerValue) → is_none i ≡ false → is_some i ≡ true
 is_there None e = cc

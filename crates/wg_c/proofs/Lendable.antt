@@ -5,12 +5,12 @@ use seplogic.Ra.Ura.{Ura}
 use mir.Raw.{raw as bare}
 use base.Fraction.{full_share}
 use base.Share
-use base.Logic.{ent, sep, ex, ex_i, id⊢, guard_i}
-use base.Fml.{Lft, Share, Fml, Incl, ftrue, fsep, fex, flft, fbor, flent, fdead}
+use base.Logic.{ent, sep, ex, ex_i, guard_i}
+use base.Fml.{Lft, Share, Fml, ftrue, fsep, flft, flent}
 use types.Logic.{Logic, sem}
-use types.Kit.{‵, ◌⊛◌, raw, given, later, await, ◌$◌, ◌∵◌, !, qed, by, move, keep, drop, learn, suffices, use0, use1, use2, split, join, fsplit, fsplit3, fjoin, fjoin3, fpack, updating, now, done}
+use types.Kit.{‵, ◌⊛◌, given, later, await, ◌$◌, ◌∵◌, !, qed, move, learn, suffices, use1, use2, split, fsplit, fsplit3, fjoin, fjoin3, fpack, updating, now, done}
 use types.Tokens.{bor_new, lent_back, lft_new, lft_end}
-use contract.Monad.{fact, fact_use}
+use contract.Monad.{fact_use}
 use denote.Memory.{lone}
 use denote.RattleType.{RattleType}
 use denote.RawPtr.{Ptr, Testable, lies_at}

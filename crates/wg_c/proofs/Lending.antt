@@ -4,16 +4,16 @@ use mathlib.Core.List.{List, [], ◌∷◌, ◌++◌}
 use Prim.Native.Nat.{ℕ}
 use seplogic.Ra.Ura.{Ura}
 use mir.Val.{Val, vstruct, vcons, vnil, of_list}
-use base.Logic.{SProp, ent, sep, id⊢, upd_i}
+use base.Logic.{ent, sep, id⊢, upd_i}
 use base.Share
 use base.Fml.{Lft, Share, Fml, ftrue, fsep, fseps, fex, fwand, fupd, fdead, flft, fbor, fshr_bor}
 use contract.BorrowLft.{meet_⊑_left}
 use ghost.Rules.{Halves}
 use types.Logic.{Logic, sem}
-use types.Kit.{‵, ◌⊛◌, raw, later, await, ◌$◌, ◌∵◌, !, qed, by, move, keep, drop, assume, suffices, use1, use2, split, rewrite, fsplit, fsplit3, fjoin, fjoin3, fpick, fpack, updating, now, done}
+use types.Kit.{‵, ◌⊛◌, ◌$◌, ◌∵◌, !, qed, move, keep, assume, suffices, use1, use2, split, rewrite, fsplit, fsplit3, fjoin, fpick, fpack, updating, now, done}
 use types.Tokens.{obor_alter, bor_fracture, shr_bor-open}
-use denote.Copied.{Copied, whole-copied, told_Cuts}
-use denote.Laws.{Is, Tells, Copy}
+use denote.Copied.{whole-copied, told_Cuts}
+use denote.Laws.{Is, Copy}
 use denote.Memory.{cell_at, part_at, part_of, shared_of}
 use denote.Moves.{moves_from}
 use denote.Opens.{Opens, Cuts-Halves}

@@ -1,6 +1,6 @@
 //! What lies behind a device and behind an encoder is taken out for a call, and put back after it; a device that a call
 //! only reads stays where it is.
-ghost use Rattle.std.specs.Prelude.{◌≡◌, ℕ, Option, Some, None, true, IfOk, IfSome, IfNone, option_copied, option_map};
+ghost use Rattle.std.specs.Prelude.{◌≡◌, ℕ, Option, Some, None, IfOk, IfSome, IfNone, option_copied, option_map};
 ghost use Rattle.wg_types.specs.declared.requests.RequestOf.{RequestOf as Request};
 ghost use Rattle.wg_types.specs.declared.commands.CommandOf.{CommandOf as Command};
 ghost use Rattle.wg_told.specs.Flats.{on_of};

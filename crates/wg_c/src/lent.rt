@@ -1,5 +1,5 @@
 //! A device as C lends it for reading.
-ghost use Rattle.std.specs.Prelude.{◌≡◌, Option, Some, None, true, is_none};
+ghost use Rattle.std.specs.Prelude.{◌≡◌, Option, Some, true, is_none};
 ghost use Rattle.std.specs.Option.{is_some};
 ghost use Rattle.wg_c.specs.Inners.{InnerValue};
 ghost use Rattle.wg_c.specs.Lends.{lent, inside_coded};

@@ -1,7 +1,7 @@
 //! The desk: its calls.
 ghost use Rattle.std.specs.Prelude.{◌≡◌, ◌++◌, ◌<◌, [], ◌||◌, not, true, false, All, length, reverse, Some, IfOk, IfErr, IfSome, IsSomeAnd, OnOk, OnErr, is_none, option_to_list};
 ghost use Rattle.wg_desk.specs.declared.desk.DeskError.TheVariants.{NoObject};
-ghost use Rattle.wg_types.specs.Requests.{named, map_refs};
+ghost use Rattle.wg_types.specs.Requests.{named};
 ghost use Rattle.wg_types.specs.Commands.{named as command_named, map_refs as map_command};
 ghost use Rattle.wg_encoder.specs.Recorders.{noted, is_late, recorded, has_taken, most_takes};
 ghost use Rattle.wg_history.specs.declared.events.Event.TheVariants.{Late};

@@ -2,10 +2,9 @@
 use mathlib.Core.Path.{◌≡◌, refl, sym, subst}
 use mathlib.Core.Bool.{Bool, true, false}
 use mathlib.Core.List.{List, [], ◌∷◌, ◌++◌}
-use lib.Dec.{T, lit<}
-use Prim.Native.Nat.{ℕ}
+use lib.Dec.{lit<}
 use seplogic.Ra.Ura.{Ura}
-use mir.Val.{Val, has_ty, WT, vbool, vstruct, of_list}
+use mir.Val.{Val, has_ty, vbool, vstruct, of_list}
 use base.Logic.{SProp, ent, emp, id⊢, guard_i}
 use base.Fml.{Fml, ftrue, fsep}
 use prog.Memory.{Memory}

@@ -1,13 +1,13 @@
 -- `get` reads the pointer through the `&`, and gives what lies behind it for as long as the `&` lasts.
-use mathlib.Core.Path.{◌≡◌, refl, sym, ap, subst}
-use Prim.Native.Nat.{ℕ, zero, suc, ◌+◌}
+use mathlib.Core.Path.{◌≡◌, refl, sym, ap}
+use Prim.Native.Nat.{ℕ}
 use mathlib.Core.Bool.{true}
 use mathlib.Core.List.{List, [], ◌∷◌}
 use seplogic.Ra.Ura.{Ura}
 use mir.Syntax.{named}
 use mir.Val.{Val, vptr}
-use base.Logic.{SProp, ent, sep, emp, id⊢, via, fst∗}
-use base.Fml.{Lft, Share, Fml, ftrue, fsep, fhide, flft}
+use base.Logic.{SProp, ent, sep}
+use base.Fml.{Lft, Share, ftrue, flft}
 use prog.Wp.{Calls, Loops, WpFn, Tables}
 use types.Logic.{Logic, sem}
 use sound.WpLaws.{WpFn-mono}
@@ -20,10 +20,10 @@ use prog.Memory.{Memory}
 use prog.Routine.{Routine}
 use contract.Monad.{Fun, fact}
 use denote.Exit.{yes}
-use denote.RattleType.{RattleType, owns}
+use denote.RattleType.{owns}
 use denote.Memory.{hidden_shr, cell_at}
 use denote.Opens.{shr_dup, unhide, hide}
-use denote.RawPtr.{RawPtr, Ptr, block_ptr, ptr_val, at_block, block_of, count_of, InBlock}
+use denote.RawPtr.{ptr_val, at_block, block_of, count_of, InBlock}
 use denote.Laws.{Is, shows}
 use denote.Ref.{Bor, ShrRef, shr_vals, shr_Tells}
 use denote.Signature.{plain}

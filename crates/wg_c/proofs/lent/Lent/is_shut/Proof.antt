@@ -3,47 +3,43 @@ use mathlib.Core.Path.{◌≡◌, refl, sym, ap, subst, ◌∙◌}
 use lib.Dec.{lit<}
 use denote.Shadow.{shadow}
 use Rattle.wg_c.specs.Lends.{lent}
-use Prim.Native.Nat.{ℕ, zero, suc, ◌+◌}
+use Prim.Native.Nat.{ℕ}
 use mathlib.Core.Bool.{Bool, true, false}
 use mathlib.Core.List.{List, [], ◌∷◌}
 use seplogic.Ra.Ura.{Ura}
 use mir.Syntax.{named}
 use mir.Val.{Val, vptr, vbool}
-use base.Logic.{SProp, ent, sep, emp, id⊢, via, fst∗}
-use base.Fml.{Lft, Share, Fml, ftrue, fsep, fhide, flft}
+use base.Logic.{SProp, ent, sep, emp, via, fst∗}
+use base.Fml.{Lft, Share, ftrue, flft}
 use prog.Wp.{Calls, Loops, WpFn, Tables}
 use types.Logic.{Logic, sem}
 use sound.WpLaws.{WpFn-mono}
-use types.Kit.{at_ret, ‵, ◌⊛◌, later, await, ◌$◌, ◌∵◌, !, qed, by, move, keep, use1, use2, drop, split, join, rewrite, fsplit, fjoin, feq_i, raw, suffices, frame, done}
+use types.Kit.{‵, ◌⊛◌, ◌$◌, ◌∵◌, !, qed, by, move, keep, drop, split, join, rewrite, fsplit, fjoin, feq_i, suffices, frame, done}
 use types.Part.{whole, sub, look_in}
-use Rattle.core.proofs.atomic.Steps.{tail}
-use types.Run.{bin, lit, stop, fld, load, of_opd, addr, returns, enter, first, blocks, exec}
-use types.ByLocal.{env, sets_last, alloc_all, pass_all, free_all, look_at, through, get as got, is, sets}
+use types.Run.{bin, lit, stop, fld, load, of_opd, returns, enter}
+use types.ByLocal.{alloc_all, pass_all, free_all, look_at, through, get as got, is, sets}
 use prog.Memory.{Memory}
 use prog.Routine.{Routine}
-use contract.Monad.{Fun, fact}
+use contract.Monad.{Fun}
 use denote.Exit.{yes}
-use denote.RattleType.{RattleType, owns}
+use denote.RattleType.{owns}
 use denote.Memory.{hidden_shr, cell_at}
-use denote.Opens.{shr_dup, unhide, hide}
-use denote.RawPtr.{RawPtr, Ptr, block_ptr, null_ptr, in_block, Testable, tests_null, ptr_val, at_block, block_of, count_of, InBlock}
+use denote.RawPtr.{Ptr, block_ptr, null_ptr, in_block, tests_null, at_block, block_of, count_of, InBlock}
 use denote.Laws.{Is, shows}
 use denote.Ref.{Bor, ShrRef, shr_vals, shr_Tells}
 use denote.Signature.{plain}
-use denote.Steps.{heard, nothing, looks, shuts, peeks}
-use denote.Struct.Lending.{in_block_says, lent_at}
+use denote.Steps.{nothing, looks, shuts, peeks}
 use denote.Triple.Entry.{on_entry}
 use denote.Triple.Spec.{Meets, triple_of}
 use denote.Triple.Walked.{says, Stays, stay_none_ref, walk_of, ends_at, walked, Goes-none_ref, walk_Meets}
 use contract.Running.{tables, tables_of}
 use denote.Triple.Table.{entered}
 use Rattle.std.specs.Prelude.{Option, Some, None, is_none}
-use Rattle.std.specs.Option.{is_some}
 use Rattle.wg_c.specs.contracts.lent.Lent.is_shut as F
 use Rattle.wg_c.specs.contracts.lent.Lent.is_shut.Key.{name as #self}
 use Rattle.wg_c.proofs.lent.Lent.is_shut.Statement as stated
 use Rattle.wg_c.proofs.lent.Lent.is_shut.Code as code
-use Rattle.wg_c.proofs.Lending.{T, R, value_of, tells, opens, sees}
+use Rattle.wg_c.proofs.Lending.{T, R, value_of, tells, opens}
 
 in_block_so : (p : Ptr) → shadow (in_block p ftrue) → InBlock p
 in_block_so (block_ptr b o) t = tt
