@@ -115,8 +115,7 @@ enum {
     WETHLORN_QUEUED = 2,         /* the operation `number` was queued; they count from 1 */
     WETHLORN_PROMISED = 3,       /* the promise `number` was made */
     WETHLORN_PLAIN = 4,          /* none of these */
-    WETHLORN_BAD_COMPLETION = 5, /* of operations that are complete already, or were never queued */
-    WETHLORN_KEPT = 6            /* a command was recorded. There is no word on validity till the finish */
+    WETHLORN_BAD_COMPLETION = 5  /* of operations that are complete already, or were never queued */
 };
 
 /* Kinds of faults; also of what an error scope received. What a rule asks is told in words by wethlorn_rules.h. */
@@ -402,7 +401,7 @@ enum { WETHLORN_STORE = 1, WETHLORN_STORE_DISCARD = 2 };
 
 /* The reply to a call. What its answer does not need is 0. */
 typedef struct wethlorn_reply {
-    uint64_t entry;  /* the number of the call's entry in the history, from 0; 0 of a KEPT, which has none */
+    uint64_t entry;  /* the number of the call's entry in the history, from 0 */
     uint64_t number; /* of the object, the operation or the promise; a promise goes by its entry */
     uint64_t scope;  /* which error scope caught the fault, 0 being the outermost, where `caught` is 1 */
     uint64_t settles; /* how many promises it settles, which wethlorn_next_settlement tells */
@@ -411,7 +410,6 @@ typedef struct wethlorn_reply {
     uint32_t fault;  /* the kind of the fault, or WETHLORN_NO_FAULT */
     uint32_t rule;   /* the number of the first rule that was broken (wethlorn_rules.h, docs/rules.md) */
     uint32_t caught; /* 1: an error scope caught the fault; 0: none did, and it is an uncaptured error */
-    uint32_t pass;   /* of a command that begins a pass: its number; 0 where the encoder has ended */
 } wethlorn_reply;
 
 /* A promise that was settled. */

@@ -45,7 +45,7 @@ pub asked_by : (old new : InnerValue) (request : RequestOf ℕ) (reply : Reply) 
     → new.desk.setup ≡ old.desk.setup → HasSent old.desk new.desk 0 (event_sent old.desk.seats request) reply
     → IsNumber reply.answer (length old.desk.seats) → HandsOutGrowth old.desk new.desk old.items new.items
     → new.desk.seats ≡ seats_after old.desk.setup old.desk.seats request reply.answer
-    → new.told ≡ old.told → new.settled ≡ old.settled ++ reply.settled → out ≡ reply_told reply (length old.desk.history) 0
+    → new.told ≡ old.told → new.settled ≡ old.settled ++ reply.settled → out ≡ reply_told reply (length old.desk.history)
     → HasAsked old new request out
 asked_by old new request reply out setup sent number grown seats still settled out_is =
     let R : Reply = answer_to old (event_sent old.desk.seats request) in
@@ -54,7 +54,7 @@ asked_by old new request reply out setup sent number grown seats still settled o
       done = done_by old new (event_sent old.desk.seats request) reply setup sent grown still settled;
       seats = subst (λ (r : Reply). new.desk.seats ≡ seats_after old.desk.setup old.desk.seats request r.answer) e seats;
       number = subst (λ (r : Reply). IsNumber r.answer (length old.desk.seats)) e number;
-      out_is = subst (λ (r : Reply). out ≡ reply_told r (length old.desk.history) 0) e out_is;
+      out_is = subst (λ (r : Reply). out ≡ reply_told r (length old.desk.history)) e out_is;
     }
 
 -- of what is there, by what it is
@@ -64,21 +64,21 @@ some_by (Some a) P Q then held = then a held
 
 late_by : (old new : InnerValue) (encoder : ObjRef) (reply : Reply) (out : ToldReply)
     → new.desk.setup ≡ old.desk.setup → HandsOutGrowth old.desk new.desk old.items new.items → new.desk.seats ≡ old.desk.seats
-    → new.told ≡ old.told → new.settled ≡ old.settled ++ reply.settled → out ≡ reply_told reply (length old.desk.history) 0
+    → new.told ≡ old.told → new.settled ≡ old.settled ++ reply.settled → out ≡ reply_told reply (length old.desk.history)
     → HasSent old.desk new.desk 0 (Late encoder) reply → HasComeLate old new encoder out
 late_by old new encoder reply out setup grown seats still settled out_is sent =
     let e : reply ≡ answer_to old (Late encoder) = sent.replied in
     record {
       done = done_by old new (Late encoder) reply setup sent grown still settled;
       seats = seats;
-      out_is = subst (λ (r : Reply). out ≡ reply_told r (length old.desk.history) 0) e out_is;
+      out_is = subst (λ (r : Reply). out ≡ reply_told r (length old.desk.history)) e out_is;
     }
 
 pub came_late : (old new : InnerValue) (recorder : RecorderValue) (reply : Reply) (out : ToldReply)
     → new.desk.setup ≡ old.desk.setup
     → IsSomeAnd (encoder_on old.desk recorder) (λ encoder. HasSent old.desk new.desk 0 (Late encoder) reply)
     → HandsOutGrowth old.desk new.desk old.items new.items → new.desk.seats ≡ old.desk.seats
-    → new.told ≡ old.told → new.settled ≡ old.settled ++ reply.settled → out ≡ reply_told reply (length old.desk.history) 0
+    → new.told ≡ old.told → new.settled ≡ old.settled ++ reply.settled → out ≡ reply_told reply (length old.desk.history)
     → IsSomeAnd (encoder_on old.desk recorder) (λ encoder. HasComeLate old new encoder out)
 came_late old new recorder reply out setup sent grown seats still settled out_is =
     some_by (encoder_on old.desk recorder) (λ encoder. HasSent old.desk new.desk 0 (Late encoder) reply) (λ encoder. HasComeLate old new encoder out)
@@ -88,7 +88,7 @@ ended_by : (old new : InnerValue) (recorder : RecorderValue) (encoder : ObjRef) 
     → new.desk.setup ≡ old.desk.setup → HandsOutGrowth old.desk new.desk old.items new.items
     → new.desk.seats ≡ old.desk.seats ++ option_to_list (seat_made old.desk.setup (Some (known_of_finish recorder)) reply.answer)
     → IsNumber reply.answer (length old.desk.seats)
-    → new.told ≡ old.told → new.settled ≡ old.settled ++ reply.settled → out ≡ reply_told reply (length old.desk.history) 0
+    → new.told ≡ old.told → new.settled ≡ old.settled ++ reply.settled → out ≡ reply_told reply (length old.desk.history)
     → HasSent old.desk new.desk 0 (finish_of encoder recorder) reply → HasFinished old new recorder encoder out
 ended_by old new recorder encoder reply out setup grown seats number still settled out_is sent =
     let e : reply ≡ answer_to old (finish_of encoder recorder) = sent.replied in
@@ -96,7 +96,7 @@ ended_by old new recorder encoder reply out setup grown seats number still settl
       done = done_by old new (finish_of encoder recorder) reply setup sent grown still settled;
       seats = subst (λ (r : Reply). new.desk.seats ≡ old.desk.seats ++ option_to_list (seat_made old.desk.setup (Some (known_of_finish recorder)) r.answer)) e seats;
       number = subst (λ (r : Reply). IsNumber r.answer (length old.desk.seats)) e number;
-      out_is = subst (λ (r : Reply). out ≡ reply_told r (length old.desk.history) 0) e out_is;
+      out_is = subst (λ (r : Reply). out ≡ reply_told r (length old.desk.history)) e out_is;
     }
 
 pub finished_by : (old new : InnerValue) (recorder : RecorderValue) (reply : Reply) (out : ToldReply)
@@ -105,7 +105,7 @@ pub finished_by : (old new : InnerValue) (recorder : RecorderValue) (reply : Rep
     → HandsOutGrowth old.desk new.desk old.items new.items
     → new.desk.seats ≡ old.desk.seats ++ option_to_list (seat_made old.desk.setup (Some (known_of_finish recorder)) reply.answer)
     → IsNumber reply.answer (length old.desk.seats)
-    → new.told ≡ old.told → new.settled ≡ old.settled ++ reply.settled → out ≡ reply_told reply (length old.desk.history) 0
+    → new.told ≡ old.told → new.settled ≡ old.settled ++ reply.settled → out ≡ reply_told reply (length old.desk.history)
     → IsSomeAnd (encoder_on old.desk recorder) (λ encoder. HasFinished old new recorder encoder out)
 finished_by old new recorder reply out setup sent grown seats number still settled out_is =
     some_by (encoder_on old.desk recorder) (λ encoder. HasSent old.desk new.desk 0 (finish_of encoder recorder) reply) (λ encoder. HasFinished old new recorder encoder out)

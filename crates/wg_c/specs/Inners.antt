@@ -82,7 +82,7 @@ pub record HasAsked (old new : InnerValue) (request : RequestOf ℕ) (out : Told
   pub done : HasDone old new (event_sent old.desk.seats request)
   pub seats : new.desk.seats ≡ seats_after old.desk.setup old.desk.seats request (answer_to old (event_sent old.desk.seats request)).answer
   pub number : IsNumber (answer_to old (event_sent old.desk.seats request)).answer (length old.desk.seats)
-  pub out_is : out ≡ reply_told (answer_to old (event_sent old.desk.seats request)) (length old.desk.history) 0
+  pub out_is : out ≡ reply_told (answer_to old (event_sent old.desk.seats request)) (length old.desk.history)
 
 -- A command was noted on a recorder of a device: it was kept, or came late.
 abbrev pub HasNoted : InnerValue → RecorderValue → RecorderValue → On → CommandOf ℕ → Noted → Type 0
@@ -92,14 +92,14 @@ HasNoted device old new on command answer = (answer ≡ noted (is_late old on)) 
 pub record HasComeLate (old new : InnerValue) (encoder : ObjRef) (out : ToldReply) : Type 0 where
   pub done : HasDone old new (Late encoder)
   pub seats : new.desk.seats ≡ old.desk.seats
-  pub out_is : out ≡ reply_told (answer_to old (Late encoder)) (length old.desk.history) 0
+  pub out_is : out ≡ reply_told (answer_to old (Late encoder)) (length old.desk.history)
 
 -- An encoder was ended with what its recorder had kept, and this is what was told of it.
 pub record HasFinished (old new : InnerValue) (recorder : RecorderValue) (encoder : ObjRef) (out : ToldReply) : Type 0 where
   pub done : HasDone old new (finish_of encoder recorder)
   pub seats : new.desk.seats ≡ old.desk.seats ++ option_to_list (seat_made old.desk.setup (Some (known_of_finish recorder)) (answer_to old (finish_of encoder recorder)).answer)
   pub number : IsNumber (answer_to old (finish_of encoder recorder)).answer (length old.desk.seats)
-  pub out_is : out ≡ reply_told (answer_to old (finish_of encoder recorder)) (length old.desk.history) 0
+  pub out_is : out ≡ reply_told (answer_to old (finish_of encoder recorder)) (length old.desk.history)
 
 -- A recorder is as it was: it has the same commands and has ended exactly where it had, and is equal to what it was but for how often it
 -- was taken from, where that is at the end of its count.

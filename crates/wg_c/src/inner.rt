@@ -137,7 +137,7 @@ impl Inner {
         let entry = self.desk.len();
         match self.desk.ask(CALLER, request, &mut self.items) {
             Ok((reply, recorder)) => {
-                let told = reply_told(&reply, entry, 0);
+                let told = reply_told(&reply, entry);
                 self.waiting.push(reply.settled);
                 Ok((told, recorder))
             }
@@ -174,7 +174,7 @@ impl Inner {
         let entry = self.desk.len();
         match self.desk.late(CALLER, recorder, &mut self.items) {
             Ok(reply) => {
-                let told = reply_told(&reply, entry, 0);
+                let told = reply_told(&reply, entry);
                 self.waiting.push(reply.settled);
                 Ok(told)
             }
@@ -197,7 +197,7 @@ impl Inner {
         let entry = self.desk.len();
         match self.desk.finish(CALLER, recorder, &mut self.items) {
             Ok(reply) => {
-                let told = reply_told(&reply, entry, 0);
+                let told = reply_told(&reply, entry);
                 self.waiting.push(reply.settled);
                 Ok(told)
             }

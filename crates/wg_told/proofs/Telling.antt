@@ -240,9 +240,9 @@ answer_back t =
     else if nat_eq t.answer 4 then Plain
     else BadCompletion
 
-answer_same : (r : Reply) (entry pass : ℕ) → answer_back (reply_told r entry pass) ≡ r.answer
-answer_same r entry pass =
-    elim r.answer as (λ a. answer_back (reply_told (record r { answer = a }) entry pass) ≡ a)
+answer_same : (r : Reply) (entry : ℕ) → answer_back (reply_told r entry) ≡ r.answer
+answer_same r entry =
+    elim r.answer as (λ a. answer_back (reply_told (record r { answer = a }) entry) ≡ a)
     [ (Made number valid) ↦ ap (Made number) (flag_same valid) | (Queued number) ↦ refl | Promised ↦ refl | Plain ↦ refl | BadCompletion ↦ refl ]
 
 abbrev caught_back : ℕ → ℕ → Caught
@@ -271,16 +271,16 @@ reply_of answer fault settled = record { answer = answer; fault = fault; settled
 abbrev reply_back : ToldReply → List ToldSettlement → Reply
 reply_back t settled = reply_of (answer_back t) (fault_back t.fault t.rule t.caught t.scope) (map settlement_back settled)
 
-reply_same : (r : Reply) (entry pass : ℕ) → reply_back (reply_told r entry pass) (map settlement_told r.settled) ≡ r
-reply_same r entry pass =
+reply_same : (r : Reply) (entry : ℕ) → reply_back (reply_told r entry) (map settlement_told r.settled) ≡ r
+reply_same r entry =
     let told : Option Fault = fault_back (fault_number r.fault) (rule_number r.fault) (caught_number r.fault) (scope_number r.fault) in
     let settled : List Settlement = map settlement_back (map settlement_told r.settled) in
-    ap (λ (x : Answer). reply_of x told settled) (answer_same r entry pass)
+    ap (λ (x : Answer). reply_of x told settled) (answer_same r entry)
     ∙ (ap (λ (x : Option Fault). reply_of r.answer x settled) (fault_same r.fault)
     ∙ ap (λ (x : List Settlement). reply_of r.answer r.fault x) (map_back settlement_told settlement_back settlement_same r.settled))
 
 pub replies_told_apart : RepliesToldApart
-replies_told_apart a b m n p q told settled =
-    let t : reply_back (reply_told a m p) (map settlement_told a.settled) ≡ reply_back (reply_told b n q) (map settlement_told a.settled) = ap (λ (x : ToldReply). reply_back x (map settlement_told a.settled)) told in
-    let v : reply_back (reply_told b n q) (map settlement_told a.settled) ≡ reply_back (reply_told b n q) (map settlement_told b.settled) = ap (reply_back (reply_told b n q)) settled in
-    (sym (reply_same a m p) ∙ (t ∙ (v ∙ reply_same b n q)), ap (λ (x : ToldReply). x.entry) told, ap (λ (x : ToldReply). x.pass) told)
+replies_told_apart a b m n told settled =
+    let t : reply_back (reply_told a m) (map settlement_told a.settled) ≡ reply_back (reply_told b n) (map settlement_told a.settled) = ap (λ (x : ToldReply). reply_back x (map settlement_told a.settled)) told in
+    let v : reply_back (reply_told b n) (map settlement_told a.settled) ≡ reply_back (reply_told b n) (map settlement_told b.settled) = ap (reply_back (reply_told b n)) settled in
+    (sym (reply_same a m) ∙ (t ∙ (v ∙ reply_same b n)), ap (λ (x : ToldReply). x.entry) told)

@@ -23,11 +23,11 @@ ListsToldApart =
 abbrev pub SettlementsToldApart : Type 0
 SettlementsToldApart = (a b : Settlement) → settlement_told a ≡ settlement_told b → a ≡ b
 
--- two replies that are told alike, with what they settle, and at the same entry and pass
+-- two replies that are told alike, with what they settle, and at the same entry
 abbrev pub RepliesToldApart : Type 0
 RepliesToldApart =
-    (a b : Reply) (m n p q : ℕ) → reply_told a m p ≡ reply_told b n q
-    → map settlement_told a.settled ≡ map settlement_told b.settled → (a ≡ b) × (m ≡ n) × (p ≡ q)
+    (a b : Reply) (m n : ℕ) → reply_told a m ≡ reply_told b n
+    → map settlement_told a.settled ≡ map settlement_told b.settled → (a ≡ b) × (m ≡ n)
 
 -- What is told at once of a list of items is its beginning. There is room for that, and for no longer beginning of the list.
 abbrev pub FitsAsMany : Type 0

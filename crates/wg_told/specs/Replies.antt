@@ -80,9 +80,9 @@ scope_number (Some fault) = scope_of fault.caught
 
 -- what is told of the reply to an event: the number of its entry, the kind of the answer (1 made, 2 queued, 3 promised, 4
 -- plain, 5 a bad completion) with its number, whether an object is valid, the fault with its kind, its rule and the scope that
--- caught it, how many promises are settled, and the number of the pass that the call begins
-abbrev pub reply_told : Reply → ℕ → ℕ → ToldReply
-reply_told reply entry pass = record {
+-- caught it, and how many promises are settled
+abbrev pub reply_told : Reply → ℕ → ToldReply
+reply_told reply entry = record {
   entry = entry;
   number = number_told reply.answer entry;
   scope = scope_number reply.fault;
@@ -92,12 +92,7 @@ reply_told reply entry pass = record {
   fault = fault_number reply.fault;
   rule = rule_number reply.fault;
   caught = caught_number reply.fault;
-  pass = pass;
 }
-
--- what is told of a command that was kept: 6, with the number of the pass that it begins
-abbrev pub kept_told : ℕ → ToldReply
-kept_told pass = record { entry = 0; number = 0; scope = 0; settles = 0; answer = 6; valid = 0; fault = 0; rule = 0; caught = 0; pass = pass }
 
 -- the number of how a promise was settled, from 1 on
 abbrev pub how_number : How → ℕ

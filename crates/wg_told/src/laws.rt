@@ -16,7 +16,7 @@ pub fn settlements_told_apart()
     ensures { SettlementsToldApart }
 {}
 
-/// Two replies that are told alike, with what they settle, are the same, of the same entry and the same pass.
+/// Two replies that are told alike, with what they settle, are the same, of the same entry.
 pub fn replies_told_apart()
     ensures { RepliesToldApart }
 {}

@@ -1,6 +1,6 @@
 //! Replies and settlements, as they are told.
 ghost use Rattle.std.specs.Prelude.{◌≡◌};
-ghost use Rattle.wg_told.specs.Replies.{flag_number, answer_number, number_told, valid_number, fault_kind_number, fault_number, rule_number, caught_number, scope_number, how_number, how_fault, how_rule, reply_told, kept_told, settlement_told};
+ghost use Rattle.wg_told.specs.Replies.{flag_number, answer_number, number_told, valid_number, fault_kind_number, fault_number, rule_number, caught_number, scope_number, how_number, how_fault, how_rule, reply_told, settlement_told};
 
 use wg_types::replies::{Answer, Caught, Fault, FaultKind, How, Reply, Settlement};
 
@@ -17,7 +17,6 @@ pub struct ToldReply {
     pub fault: u32,
     pub rule: u32,
     pub caught: u32,
-    pub pass: u32,
 }
 
 /// A promise that was settled.
@@ -119,10 +118,9 @@ fn scope_number(fault: Option<Fault>) -> u64
     }
 }
 
-/// The reply to an event, which is the entry with this number. Where the call begins a pass, that has the
-/// number `pass`.
-pub fn reply_told(reply: &Reply, entry: u64, pass: u32) -> ToldReply
-    ensures { result ≡ reply_told reply.now entry pass }
+/// The reply to an event, which is the entry with this number.
+pub fn reply_told(reply: &Reply, entry: u64) -> ToldReply
+    ensures { result ≡ reply_told reply.now entry }
 {
     ToldReply {
         entry,
@@ -134,25 +132,6 @@ pub fn reply_told(reply: &Reply, entry: u64, pass: u32) -> ToldReply
         fault: fault_number(reply.fault),
         rule: rule_number(reply.fault),
         caught: caught_number(reply.fault),
-        pass,
-    }
-}
-
-/// The reply to a command that was kept, which is no event. Where it begins a pass, that has this number.
-pub fn kept_told(pass: u32) -> ToldReply
-    ensures { result ≡ kept_told pass }
-{
-    ToldReply {
-        entry: 0,
-        number: 0,
-        scope: 0,
-        settles: 0,
-        answer: 6,
-        valid: 0,
-        fault: 0,
-        rule: 0,
-        caught: 0,
-        pass,
     }
 }
 

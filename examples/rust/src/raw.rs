@@ -25,7 +25,6 @@ pub struct Reply {
     pub fault: u32,
     pub rule: u32,
     pub caught: u32,
-    pub pass: u32,
 }
 
 #[repr(C)]

@@ -78,8 +78,6 @@ pub enum Answer {
     Plain,
     /// Of operations that are complete already, or were never queued.
     BadCompletion,
-    /// A command was recorded. There is no word on validity till the finish.
-    Kept,
 }
 
 #[derive(Clone, Copy, Debug, PartialEq, Eq)]
@@ -100,8 +98,8 @@ pub struct Fault {
 /// The reply to a call.
 #[derive(Clone, Copy, Debug, PartialEq, Eq)]
 pub struct Reply {
-    /// The number of the call's entry in the history. A command that was recorded has none.
-    pub entry: Option<u64>,
+    /// The number of the call's entry in the history.
+    pub entry: u64,
     pub answer: Answer,
     pub fault: Option<Fault>,
     /// How many promises it settles, which `next_settlement` tells.
@@ -135,7 +133,6 @@ pub(crate) fn reply(it: &raw::Reply) -> Reply {
         2 => Answer::Queued(it.number),
         3 => Answer::Promised(it.number),
         5 => Answer::BadCompletion,
-        6 => Answer::Kept,
         _ => Answer::Plain,
     };
     let scope = if it.caught == 1 { Some(it.scope) } else { None };
@@ -144,9 +141,8 @@ pub(crate) fn reply(it: &raw::Reply) -> Reply {
         rule: it.rule,
         scope,
     });
-    let entry = if answer == Answer::Kept { None } else { Some(it.entry) };
     Reply {
-        entry,
+        entry: it.entry,
         answer,
         fault,
         settles: it.settles,

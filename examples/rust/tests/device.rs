@@ -36,12 +36,12 @@ fn a_number_that_names_nothing_is_an_error_and_no_entry() {
     let mut device = Device::open(1024, &[], &[]).unwrap();
     assert_eq!(device.destroy(0), Err(Error::NoObject));
     let made = device.create_buffer(&DESC).unwrap();
-    assert_eq!((made.entry, made.object()), (Some(0), Some(0)));
-    assert_eq!(device.drop_object(0).unwrap().entry, Some(1));
+    assert_eq!((made.entry, made.object()), (0, Some(0)));
+    assert_eq!(device.drop_object(0).unwrap().entry, 1);
     assert_eq!(device.next_item(), Some(Item::Release(0)));
     assert_eq!(device.next_item(), None);
     assert_eq!(device.destroy(0), Err(Error::NoObject));
-    assert_eq!(device.create_buffer(&DESC).unwrap().entry, Some(2));
+    assert_eq!(device.create_buffer(&DESC).unwrap().entry, 2);
 }
 
 #[test]
