@@ -154,8 +154,9 @@ int main(int words, char **word) {
         if (pthread_create(&workers[number].thread, NULL, work, &workers[number]))
             return 1;
     }
-    for (uint32_t number = 0; number < THREADS; number++) {
+    for (uint32_t number = 0; number < THREADS; number++)
         pthread_join(workers[number].thread, NULL);
+    for (uint32_t number = 0; number < THREADS; number++) {
         it.calls += workers[number].recorded;
         if (workers[number].not_kept)
             refuse(&it, "a command was not kept, or an encoder not closed");

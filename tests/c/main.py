@@ -36,7 +36,7 @@ SECONDS = 600
 # Each allocation is refused on these, and valgrind plays them: a whole frame, a bundle with queries, and callers that race.
 CLOSELY = ["examples/realistic-frame", "tests/cases/bundles/bundle-and-occlusion-queries", "examples/submit-races-destroy"]
 # So many calls are rounds of 17, of which each makes three objects, one of them a buffer, and records eight clears.
-CALLS_OF_THREADS = 40_800
+CALLS_OF_THREADS, CALLS_UNDER_VALGRIND = 40_800, 1_360
 # The sources of the engine with a software driver, how many frames it runs, and what its driver can be told to leave out.
 ENGINE = sorted(EXAMPLES.glob("engine*.c"))
 FRAMES = 1000
@@ -151,6 +151,14 @@ def test_threads(program):
     status, text = run([program, CALLS_OF_THREADS])
     expected = f"threads 8 calls {CALLS_OF_THREADS} objects {3 * rounds} steps {8 * rounds} releases {rounds}\n"
     check(status == 0 and text.decode() == expected, f"{program.name}: status {status}, {text.decode()}")
+
+
+def test_races(program):
+    """No thread reads what another one writes meanwhile: valgrind has two ways to find that."""
+    for tool in ("helgrind", "drd"):
+        words = ["valgrind", "--quiet", f"--tool={tool}", "--error-exitcode=99", program, CALLS_UNDER_VALGRIND]
+        ran = subprocess.run([str(word) for word in words], stdin=subprocess.DEVNULL, capture_output=True, timeout=SECONDS)
+        check(ran.returncode == 0, f"{program.name} under {tool}: status {ran.returncode}\n{ran.stderr.decode('utf-8', 'replace')[:4000]}")
 
 
 def test_engine(program):
@@ -327,7 +335,10 @@ def test_programs(words):
         asan = ["-fsanitize=address", "-fno-omit-frame-pointer"]
         test_frame(build(folder, "frame", [EXAMPLES / "frame.c", EXAMPLES / "report.c"], linked))
         test_frame(build(folder, "frame-with-asan", [EXAMPLES / "frame.c", EXAMPLES / "report.c"], linked, *asan))
-        test_threads(build(folder, "threads", [EXAMPLES / "threads.c"], linked, "-pthread"))
+        threads = build(folder, "threads", [EXAMPLES / "threads.c"], linked, "-pthread")
+        test_threads(threads)
+        if shutil.which("valgrind"):
+            test_races(threads)
         test_engine(build(folder, "engine", ENGINE, linked, *C11))
         test_engine(build(folder, "engine-with-sanitizers", ENGINE, linked, *C11, *asan, "-fsanitize=undefined", "-fno-sanitize-recover"))
         test_edges(build(folder, "edges", [HERE / "edges.c"], linked))
