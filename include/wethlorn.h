@@ -159,7 +159,8 @@ enum {
     WETHLORN_OF_BUFFER = 1,    /* a part: the whole buffer. Cells: its bytes from `lo` to below `hi` */
     WETHLORN_OF_QUERY_SET = 2, /* a part: the whole query set. Cells: its queries from `lo` to below `hi` */
     WETHLORN_OF_TEXTURE = 3,   /* the layers from `lo` to below `hi` of one aspect and mip level */
-    WETHLORN_OF_SLICES = 4     /* cells of a 3D texture: the slices from `lo` to below `hi` of a mip level */
+    WETHLORN_OF_SLICES = 4     /* cells of a 3D texture: the slices from `lo` to below `hi` of a mip level, with the aspect
+                                * WETHLORN_COLOR */
 };
 enum { WETHLORN_COLOR = 1, WETHLORN_DEPTH = 2, WETHLORN_STENCIL = 3 };
 
@@ -1042,7 +1043,7 @@ uint32_t wethlorn_item_use(wethlorn_device *device, size_t at, wethlorn_use *out
 uint32_t wethlorn_item_access(wethlorn_device *device, size_t at, wethlorn_access *out);
 
 /* Tells the first bytes of a buffer, of those from `from` up to but not including `to`, that are unset after all calls
- * so far, as many as stand together: those that no step of the trace has written, or that a page has yet to see as zero.
+ * so far, as many as stand together: no step of the trace has written them, a clear neither, and a page sees them as zero.
  * END: there are none, or the range is empty. The next ones are told by a call from the end of what was told. Of what is
  * no buffer, or past its end, all is unset. It takes no memory and changes nothing. Status: OK, END, NO_OBJECT, CLOSED.
  * Owner: `out` is the caller's. Thread: any, one at a time, under the caller's lock. */
