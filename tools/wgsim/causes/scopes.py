@@ -33,8 +33,10 @@ Uses = List[Tuple[Tuple[Any, ...], Use]]
 
 
 def of_setting(case: Case, setting: Played) -> Uses:
-    """What a setBindGroup brings: pairs of a cell and its use."""
-    group, found = setting.uses["group"], []
+    """What a setBindGroup brings: pairs of a cell and its use; one of null brings none."""
+    group, found = setting.uses.get("group"), []
+    if group is None:
+        return found
     for asked, entry, thing, move in case.second.bound_groups.bindings(group, setting.call["offsets"]):
         bound = thing if thing.do == "createView" else None
         view = f", with {seen_by(case, bound)}" if bound else ""
