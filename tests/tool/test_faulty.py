@@ -10,6 +10,10 @@ from wgsim.reading import places
 from wgsim.reading import report as reports
 
 
+# The rule of a pass's end that asks how often it draws. An end that is put behind a draw would have it before the one that is there.
+OF_AN_END = 404
+
+
 def recorded(lane):
     """The numbers of the commands of the encoder that the last call of a lane finishes, and of its passes, without the late ones.
 
@@ -45,11 +49,11 @@ def taken_before(beside, call):
     return [json.loads(beside.script.text.of(each.value)) for each in beside.turns[: beside.turns.index(call) + 1]]
 
 
-def rule_with(script, lane, kept):
+def rule_with(script, lane, kept, ends_passes=True):
     """The rule that the finish which ends a lane has with the first commands of its encoder alone, among the calls that make objects,
     bundles with what is recorded in them too, and drop them.
 
-    What these commands leave open is closed."""
+    What these commands leave open is closed, a pass where that is asked."""
     own, makers = recorded(lane)[0], [
         n
         for n, call in enumerate(lane)
@@ -63,6 +67,8 @@ def rule_with(script, lane, kept):
     cut = [call for n, call in enumerate(lane) if n in left]
     _, begin, pushes, active = recorded(cut)
     for name in [cut[n]["as"] for n in begin] + [cut[-1]["on"]]:
+        if name != cut[-1]["on"] and not ends_passes:
+            continue
         closing = [{"do": "popDebugGroup", "on": name} for _ in pushes.get(name, [])]
         if name != cut[-1]["on"]:
             closing += [{"do": "endOcclusionQuery", "on": name} for _ in active] + [{"do": "end", "on": name}]
@@ -76,7 +82,7 @@ def first_of(script, lane):
     where that needs no command."""
     whole, own = rule_with(script, lane, None)
     for kept in range(len(own) + 1):
-        if rule_with(script, lane, kept)[0] == whole:
+        if rule_with(script, lane, kept, whole != OF_AN_END)[0] == whole:
             return (own[kept - 1] if kept else None), whole
     return None, whole
 

@@ -27,6 +27,8 @@ OPEN = {PASS, GROUP}
 DROPPED = 11
 # The rule that every usage scope is compatible, which is that of one dispatch, of one render pass or of one bundle.
 SCOPE = 184
+# The rule of a pass's end that asks how often it draws: of the end that is there, since one that is put behind a draw would have it too.
+DRAWS = 404
 # The rules that are the finish's own, and not those of a command.
 OF_FINISH = OPEN | {DROPPED, SCOPE}
 # The rules of a finish that need no command: on the encoder itself.
@@ -158,7 +160,7 @@ def find(beside: Beside, finish: Call, rule: int, program: Asked) -> Found | Non
     if place is None or place.finish is not finish or not place.commands or rule in OF_ENCODER:
         return None
     cuts = Cuts(beside, finish, program)
-    closed = {PASS: (), GROUP: ("pass",)}.get(rule, ("pass", "groups"))
+    closed = {PASS: (), GROUP: ("pass",), DRAWS: ("groups",)}.get(rule, ("pass", "groups"))
     if cuts.rule(len(cuts.commands), closed) != rule:
         return None
     found = opener(cuts, rule, closed) if rule in OPEN else first(cuts, rule, closed)
