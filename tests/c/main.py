@@ -196,6 +196,7 @@ def test_holder(folder, linked):
     if status == 0:
         status, text = run([program])
         expected = f"buffer 0, operation 1\nrule 202: {rules.sentence_of(202)}\nstep 2 of operation 1, accesses 1\nno object 1\n"
+        expected += "commands 2, operation 2\nstep 8 of operation 2, accesses 1\n"
         check(status == 0 and text.decode() == expected, f"holder.cpp: status {status}, {text.decode('utf-8', 'replace')}")
 
 
