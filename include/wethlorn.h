@@ -45,11 +45,16 @@
  * thread may then drain the next items and do them first, and the barriers hold of the order in which they
  * are told. What waits in the drains is the device's and not the call's: whoever drains does what others left.
  *
- * Values. An enumerated value that is left out is 0, and that is allowed where a comment says so. A flag is
- * 0 or 1. A number or an object that may be left out, or that is null, is WETHLORN_NONE. Whatever else is out of
- * range, also a number above 2^32 - 1 where one of 32 bits is asked for, has the status WETHLORN_BAD_VALUE. What no
- * rule looks at is not given, as the data of a write, a label, a blend constant, a stencil reference, the base vertex
- * of an indexed draw, or the color to which an attachment is cleared.
+ * Values. An enumerated value that is left out is 0, and that is allowed where a comment says so; it then is what
+ * WebGPU has by default, if it has that. A flag is 0 or 1. A number or an object that may be left out, or that is null,
+ * is WETHLORN_NONE. Whatever else is out of range, also a number above 2^32 - 1 where one of 32 bits is asked for, has
+ * the status WETHLORN_BAD_VALUE. What no rule looks at is not given, as the data of a write, a label, a blend constant,
+ * how a sampler addresses what lies outside of a texture, the front face and the mask of samples of a pipeline, the
+ * mask by which it reads the stencil, a stencil reference, the base vertex of an indexed draw, or the color and the
+ * stencil to which an attachment is cleared.
+ *
+ * Fixed numbers. There are no floats. A number that is fixed stands for itself over WETHLORN_FIXED_ONE: that is 1. A
+ * float of a page is given by the nearest such number, of two the even one.
  *
  * Descriptors. Begin each with its WETHLORN_.._INIT and set what is asked for: the objects and sizes that are
  * left out are then WETHLORN_NONE, and all else is as WebGPU has it by default. A descriptor that is set to
@@ -90,8 +95,12 @@ typedef struct wethlorn_encoder {
 
 /* What is left out: a number, a size (which is then what remains) or an object. */
 #define WETHLORN_NONE UINT64_MAX
-/* What 1 is in the numbers of a viewport. */
+/* What 1 is in fixed numbers. */
 #define WETHLORN_FIXED_ONE UINT64_C(65536)
+/* The greatest level of detail of a sampler that leaves it out: 32, as a fixed number. */
+#define WETHLORN_LOD_MAX UINT64_C(2097152)
+/* As the mask by which a pipeline writes the stencil: all bits. */
+#define WETHLORN_ALL_BITS UINT32_MAX
 /* As the pass on which a command stands: none, the command stands on the encoder or bundle encoder itself. */
 #define WETHLORN_ON_ENCODER UINT32_MAX
 
@@ -214,7 +223,9 @@ enum {
     WETHLORN_MAX_VERTEX_BUFFER_ARRAY_STRIDE = 20,
     WETHLORN_MAX_BUFFER_SIZE = 21,
     WETHLORN_MAX_COLOR_ATTACHMENTS = 22,
-    WETHLORN_MAX_COMPUTE_WORKGROUPS_PER_DIMENSION = 23
+    WETHLORN_MAX_COMPUTE_WORKGROUPS_PER_DIMENSION = 23,
+    WETHLORN_MAX_COLOR_ATTACHMENT_BYTES_PER_SAMPLE = 24 /* a device is held to it where it was asked for, be it by the
+                                                         * default, and else not: then the default is told of it */
 };
 
 /* The limits of a device of which nothing is asked, and which each adapter supports. Of a MAX the greater value is
@@ -242,6 +253,7 @@ enum {
 #define WETHLORN_DEFAULT_MAX_BUFFER_SIZE UINT64_C(268435456)
 #define WETHLORN_DEFAULT_MAX_COLOR_ATTACHMENTS UINT64_C(8)
 #define WETHLORN_DEFAULT_MAX_COMPUTE_WORKGROUPS_PER_DIMENSION UINT64_C(65535)
+#define WETHLORN_DEFAULT_MAX_COLOR_ATTACHMENT_BYTES_PER_SAMPLE UINT64_C(32)
 /* The best limits that this library knows, whatever an adapter supports. */
 #define WETHLORN_BEST_MAX_TEXTURE_DIMENSION_1D UINT64_C(16384)
 #define WETHLORN_BEST_MAX_TEXTURE_DIMENSION_2D UINT64_C(16384)
@@ -266,6 +278,7 @@ enum {
 #define WETHLORN_BEST_MAX_BUFFER_SIZE UINT64_C(4294967296)
 #define WETHLORN_BEST_MAX_COLOR_ATTACHMENTS UINT64_C(8)
 #define WETHLORN_BEST_MAX_COMPUTE_WORKGROUPS_PER_DIMENSION UINT64_C(65535)
+#define WETHLORN_BEST_MAX_COLOR_ATTACHMENT_BYTES_PER_SAMPLE UINT64_C(128)
 
 /* Formats of textures. 0 where a format may be left out. */
 enum {
@@ -301,6 +314,21 @@ enum { WETHLORN_ASPECT_ALL = 1, WETHLORN_ASPECT_DEPTH_ONLY = 2, WETHLORN_ASPECT_
 
 /* Kinds of samplers, and what a binding asks of one. */
 enum { WETHLORN_FILTERING = 1, WETHLORN_NON_FILTERING = 2, WETHLORN_COMPARISON = 3 };
+
+/* How texels or mip levels that lie beside one another are sampled. */
+enum { WETHLORN_NEAREST = 1, WETHLORN_LINEAR = 2 };
+
+/* How a value is compared with another. */
+enum {
+    WETHLORN_COMPARE_NEVER = 1,
+    WETHLORN_COMPARE_LESS = 2,
+    WETHLORN_COMPARE_EQUAL = 3,
+    WETHLORN_COMPARE_LESS_EQUAL = 4,
+    WETHLORN_COMPARE_GREATER = 5,
+    WETHLORN_COMPARE_NOT_EQUAL = 6,
+    WETHLORN_COMPARE_GREATER_EQUAL = 7,
+    WETHLORN_COMPARE_ALWAYS = 8
+};
 
 /* What a binding holds. */
 enum {
@@ -373,10 +401,20 @@ typedef WETHLORN_ENUM(wethlorn_map_mode) {
     WETHLORN_MAP_MODE_WRITE = 2
 } wethlorn_map_mode;
 
+/* Which channels of a color target a pipeline writes: flags. */
+typedef WETHLORN_ENUM(wethlorn_color_write) {
+    WETHLORN_COLOR_WRITE_NONE = 0,
+    WETHLORN_COLOR_WRITE_RED = 1,
+    WETHLORN_COLOR_WRITE_GREEN = 2,
+    WETHLORN_COLOR_WRITE_BLUE = 4,
+    WETHLORN_COLOR_WRITE_ALPHA = 8,
+    WETHLORN_COLOR_WRITE_ALL = 15
+} wethlorn_color_write;
+
 /* Whether they have 32 bits each, which a compiler may be told to change. */
 typedef char wethlorn_types_have_32_bits[sizeof(wethlorn_buffer_usage) == 4 &&
     sizeof(wethlorn_texture_usage) == 4 && sizeof(wethlorn_visibility) == 4 && sizeof(wethlorn_stage) == 4 &&
-    sizeof(wethlorn_map_mode) == 4 ? 1 : -1];
+    sizeof(wethlorn_map_mode) == 4 && sizeof(wethlorn_color_write) == 4 ? 1 : -1];
 
 /* What an entry of a bind group binds. */
 enum { WETHLORN_BOUND_BUFFER = 1, WETHLORN_BOUND_VIEW = 2, WETHLORN_BOUND_SAMPLER = 3 };
@@ -397,6 +435,57 @@ enum {
     WETHLORN_VERTEX_FLOAT32X4 = 12
 };
 enum { WETHLORN_INDEX_UINT16 = 1, WETHLORN_INDEX_UINT32 = 2 };
+
+/* What vertices make. */
+enum {
+    WETHLORN_POINT_LIST = 1,
+    WETHLORN_LINE_LIST = 2,
+    WETHLORN_LINE_STRIP = 3,
+    WETHLORN_TRIANGLE_LIST = 4,
+    WETHLORN_TRIANGLE_STRIP = 5
+};
+
+/* Which faces are not drawn. */
+enum { WETHLORN_CULL_NONE = 1, WETHLORN_CULL_FRONT = 2, WETHLORN_CULL_BACK = 3 };
+
+/* How two values are blended, and by what each is multiplied before. */
+enum {
+    WETHLORN_BLEND_ADD = 1,
+    WETHLORN_BLEND_SUBTRACT = 2,
+    WETHLORN_BLEND_REVERSE_SUBTRACT = 3,
+    WETHLORN_BLEND_MIN = 4,
+    WETHLORN_BLEND_MAX = 5
+};
+enum {
+    WETHLORN_FACTOR_ZERO = 1,
+    WETHLORN_FACTOR_ONE = 2,
+    WETHLORN_FACTOR_SRC = 3,
+    WETHLORN_FACTOR_ONE_MINUS_SRC = 4,
+    WETHLORN_FACTOR_SRC_ALPHA = 5,
+    WETHLORN_FACTOR_ONE_MINUS_SRC_ALPHA = 6,
+    WETHLORN_FACTOR_DST = 7,
+    WETHLORN_FACTOR_ONE_MINUS_DST = 8,
+    WETHLORN_FACTOR_DST_ALPHA = 9,
+    WETHLORN_FACTOR_ONE_MINUS_DST_ALPHA = 10,
+    WETHLORN_FACTOR_SRC_ALPHA_SATURATED = 11,
+    WETHLORN_FACTOR_CONSTANT = 12,
+    WETHLORN_FACTOR_ONE_MINUS_CONSTANT = 13
+};
+
+/* What becomes of a value of the stencil. */
+enum {
+    WETHLORN_STENCIL_KEEP = 1,
+    WETHLORN_STENCIL_ZERO = 2,
+    WETHLORN_STENCIL_REPLACE = 3,
+    WETHLORN_STENCIL_INVERT = 4,
+    WETHLORN_STENCIL_INCREMENT_CLAMP = 5,
+    WETHLORN_STENCIL_DECREMENT_CLAMP = 6,
+    WETHLORN_STENCIL_INCREMENT_WRAP = 7,
+    WETHLORN_STENCIL_DECREMENT_WRAP = 8
+};
+
+/* As the `depth_write` of a pipeline, besides 0 and 1: whether it writes depth is left out. */
+enum { WETHLORN_DEPTH_WRITE_LEFT_OUT = 2 };
 enum { WETHLORN_LOAD = 1, WETHLORN_CLEAR = 2 };
 enum { WETHLORN_STORE = 1, WETHLORN_STORE_DISCARD = 2 };
 
@@ -507,6 +596,15 @@ typedef struct wethlorn_view_desc {
     uint32_t dim, aspect, base_mip, base_layer;
 } wethlorn_view_desc;
 
+/* A sampler. The filters and `compare` may be 0: nearest, and a sampler that does not compare. The levels of detail are
+ * fixed numbers; where a page gives one below 0 a `lod_min` above `lod_max` is given, which has a fault as that has. A
+ * sampler compares where `compare` is given, else filters where a filter is linear, and else does not. max_anisotropy is
+ * given as a page has it: 0, as in a sampler that is {0}, has a fault. */
+typedef struct wethlorn_sampler_desc {
+    uint64_t lod_min, lod_max;
+    uint32_t mag_filter, min_filter, mipmap_filter, compare, max_anisotropy;
+} wethlorn_sampler_desc;
+
 /* What a binding holds. Of the fields only those of its kind are looked at. */
 typedef struct wethlorn_binding {
     uint64_t min_size;
@@ -532,6 +630,8 @@ typedef struct wethlorn_group_entry {
     uint32_t binding, bound;
 } wethlorn_group_entry;
 
+/* A vertex buffer that a pipeline reads. step may be 0: the slot is left out (null), has no attributes, and nothing else
+ * is looked at. */
 typedef struct wethlorn_vertex_buffer {
     uint32_t stride, step;
 } wethlorn_vertex_buffer;
@@ -541,11 +641,41 @@ typedef struct wethlorn_vertex_attribute {
     uint32_t buffer, format, offset, location;
 } wethlorn_vertex_attribute;
 
-/* layout may be WETHLORN_NONE: the pipeline derives its layout itself. depth_format may be 0: there is no
- * depth, and depth_write and stencil_write are not looked at. */
+/* How the colors of a target are blended, or its alphas. Each may be 0: add, one, and zero. */
+typedef struct wethlorn_blend {
+    uint32_t operation, src_factor, dst_factor;
+} wethlorn_blend;
+
+/* A color target of a pipeline. format may be 0: the slot is left out (null), and nothing else is looked at. blends is a
+ * flag: where it is 1 the target has a blend, of `color` and `alpha`, which else are not looked at. write_mask is given
+ * as a page has it: with 0 nothing is written, and a bit that is none has a fault. */
+typedef struct wethlorn_target {
+    uint32_t format;
+    wethlorn_color_write write_mask;
+    uint32_t blends;
+    wethlorn_blend color, alpha;
+} wethlorn_target;
+
+/* What a pipeline does with the stencil where it draws a front, or a back. Each may be 0: always, and keep. */
+typedef struct wethlorn_stencil_face {
+    uint32_t compare, fail_op, depth_fail_op, pass_op;
+} wethlorn_stencil_face;
+
+/* A render pipeline. layout may be WETHLORN_NONE: it derives its layout itself.
+ *
+ * Depth and stencil. depth_format may be 0: there is none of both, and nothing else of them is looked at. depth_write is
+ * a flag, or WETHLORN_DEPTH_WRITE_LEFT_OUT, and depth_compare may be 0, which leaves it out: where the format has depth
+ * WebGPU asks for both. biased is a flag: whether depthBias, depthBiasSlopeScale or depthBiasClamp is not 0.
+ * stencil_front, stencil_back and stencil_write_mask tell whether stencil is written, with the mask 0 that it is not.
+ * Where the flag stencil_write is 1 that alone tells that it is, and these are not looked at.
+ *
+ * What vertices make. topology, strip_index_format and cull_mode may be 0: a list of triangles, no format, and nothing
+ * is culled. alpha_to_coverage is a flag. */
 typedef struct wethlorn_render_desc {
     uint64_t layout;
-    uint32_t samples, depth_format, depth_write, stencil_write;
+    uint32_t samples, depth_format, depth_write, stencil_write, depth_compare, biased, stencil_write_mask;
+    wethlorn_stencil_face stencil_front, stencil_back;
+    uint32_t topology, strip_index_format, cull_mode, alpha_to_coverage;
 } wethlorn_render_desc;
 
 /* To what a bundle draws, beside its colors. depth_format may be 0. */
@@ -561,17 +691,18 @@ typedef struct wethlorn_color {
 } wethlorn_color;
 
 /* The depth and stencil attachment. view may be WETHLORN_NONE: there is none, and nothing else is looked at.
- * The load and store operations may be 0. */
+ * The load and store operations may be 0. depth_clear, to which depth is cleared, is a fixed number, and any one above
+ * WETHLORN_FIXED_ONE where a page gives one below 0; it may be WETHLORN_NONE, with which depth cannot be cleared. */
 typedef struct wethlorn_depth {
     uint64_t view;
     uint32_t depth_load, depth_store, depth_read_only, stencil_load, stencil_store, stencil_read_only;
+    uint64_t depth_clear;
 } wethlorn_depth;
 
-/* A viewport. It has no floats: each number stands for itself over WETHLORN_FIXED_ONE, so that this is one texel, or
- * the depth 1. It begins `x` to the right of the left edge of what is attached, or where `left` is 1 to the left of
- * it, and so `y` downwards, or where `above` is 1 upwards. A float of a page is given by the nearest such number, of
- * two the even one; where that has more than 64 bits, and where a width, a height or a depth is below 0, by
- * UINT64_MAX, which is out of range as they are. */
+/* A viewport, of fixed numbers: WETHLORN_FIXED_ONE is one texel, or the depth 1. It begins `x` to the right of the left
+ * edge of what is attached, or where `left` is 1 to the left of it, and so `y` downwards, or where `above` is 1
+ * upwards. What has more than 64 bits, and a width, a height or a depth below 0, is given by UINT64_MAX, which is out
+ * of range as they are. */
 typedef struct wethlorn_viewport {
     uint64_t x, y, width, height, min_depth, max_depth;
     uint32_t left, above;
@@ -627,6 +758,7 @@ typedef struct wethlorn_texture_write {
 #define WETHLORN_BUFFER_DESC_INIT {0, WETHLORN_BUFFER_USAGE_NONE, 0}
 #define WETHLORN_TEXTURE_DESC_INIT {WETHLORN_EXTENT_INIT, WETHLORN_TEXTURE_USAGE_NONE, 0, WETHLORN_2D, 1, 1}
 #define WETHLORN_VIEW_DESC_INIT {WETHLORN_NONE, WETHLORN_NONE, 0, WETHLORN_ASPECT_ALL, 0, 0}
+#define WETHLORN_SAMPLER_DESC_INIT {0, WETHLORN_LOD_MAX, 0, 0, 0, 0, 1}
 /* Of no kind, which has to be set. */
 #define WETHLORN_BINDING_INIT \
     {0, 0, 0, WETHLORN_FILTERING, WETHLORN_SAMPLE_FLOAT, WETHLORN_VIEW_2D, 0, WETHLORN_ACCESS_WRITE_ONLY, 0}
@@ -635,10 +767,16 @@ typedef struct wethlorn_texture_write {
 #define WETHLORN_GROUP_ENTRY_INIT {WETHLORN_NONE, 0, WETHLORN_NONE, 0, 0}
 #define WETHLORN_VERTEX_BUFFER_INIT {0, WETHLORN_STEP_PER_VERTEX}
 #define WETHLORN_VERTEX_ATTRIBUTE_INIT {0, 0, 0, 0}
-#define WETHLORN_RENDER_DESC_INIT {WETHLORN_NONE, 1, 0, 0, 0}
+#define WETHLORN_BLEND_INIT {0, 0, 0}
+#define WETHLORN_TARGET_INIT {0, WETHLORN_COLOR_WRITE_ALL, 0, WETHLORN_BLEND_INIT, WETHLORN_BLEND_INIT}
+#define WETHLORN_STENCIL_FACE_INIT {0, 0, 0, 0}
+/* Of depth it is left out whether it is written, and by what it is compared, for which WebGPU has no default. */
+#define WETHLORN_RENDER_DESC_INIT \
+    {WETHLORN_NONE, 1, 0, WETHLORN_DEPTH_WRITE_LEFT_OUT, 0, 0, 0, WETHLORN_ALL_BITS, \
+        WETHLORN_STENCIL_FACE_INIT, WETHLORN_STENCIL_FACE_INIT, 0, 0, 0, 0}
 #define WETHLORN_BUNDLE_DESC_INIT {1, 0, 0, 0}
 #define WETHLORN_COLOR_INIT {WETHLORN_NONE, WETHLORN_NONE, WETHLORN_NONE, 0, 0}
-#define WETHLORN_DEPTH_INIT {WETHLORN_NONE, 0, 0, 0, 0, 0, 0}
+#define WETHLORN_DEPTH_INIT {WETHLORN_NONE, 0, 0, 0, 0, 0, 0, WETHLORN_NONE}
 #define WETHLORN_VIEWPORT_INIT {0, 0, 0, 0, 0, WETHLORN_FIXED_ONE, 0, 0}
 #define WETHLORN_TEXEL_LAYOUT_INIT {0, WETHLORN_NONE, WETHLORN_NONE}
 #define WETHLORN_SPOT_INIT {WETHLORN_NONE, WETHLORN_ORIGIN_INIT, 0, WETHLORN_ASPECT_ALL}
@@ -702,9 +840,16 @@ uint32_t wethlorn_create_texture(wethlorn_device *device, const wethlorn_texture
 uint32_t wethlorn_create_view(wethlorn_device *device, uint64_t texture, const wethlorn_view_desc *desc,
     wethlorn_reply *out);
 
-/* Makes a sampler (createSampler). Status: OK, NO_MEMORY, CLOSED, BAD_VALUE. Owner: the device keeps what
- * it makes; the arguments stay the caller's. Thread: any, one at a time, under the caller's lock. */
+/* Makes a sampler of a kind (createSampler), of which no more is told. Status: OK, NO_MEMORY, CLOSED, BAD_VALUE. Owner:
+ * the device keeps what it makes; the arguments stay the caller's. Thread: any, one at a time, under the caller's
+ * lock. */
 uint32_t wethlorn_create_sampler(wethlorn_device *device, uint32_t kind, wethlorn_reply *out);
+
+/* Makes a sampler by what describes it (createSampler), of which its kind is derived. Status: OK, NO_MEMORY, CLOSED,
+ * BAD_VALUE. Owner: the device keeps what it makes; the arguments stay the caller's. Thread: any, one at a time, under
+ * the caller's lock. */
+uint32_t wethlorn_create_described_sampler(wethlorn_device *device, const wethlorn_sampler_desc *desc,
+    wethlorn_reply *out);
 
 /* Makes a bind group layout (createBindGroupLayout). Status: OK, NO_MEMORY, CLOSED, BAD_VALUE. Owner: the
  * device keeps what it makes; the arguments stay the caller's. Thread: any, one at a time, under the
@@ -731,14 +876,14 @@ uint32_t wethlorn_create_bind_group(wethlorn_device *device, uint64_t layout,
 uint32_t wethlorn_create_compute_pipeline(wethlorn_device *device, uint64_t layout,
     const wethlorn_iface_entry *iface, size_t iface_count, wethlorn_reply *out);
 
-/* Makes a render pipeline (createRenderPipeline). `buffers` stand by slot, and each of `attributes` has
- * the index of its buffer: BAD_VALUE where there is none. `targets` are formats, of which each may be 0.
+/* Makes a render pipeline (createRenderPipeline). `buffers` and `targets` stand by slot, and each of
+ * `attributes` has the index of its buffer: BAD_VALUE where there is none, or where that slot is left out.
  * Status: OK, NO_MEMORY, NO_OBJECT, CLOSED, BAD_VALUE. Owner: the device keeps what it makes; the
  * arguments stay the caller's. Thread: any, one at a time, under the caller's lock. */
 uint32_t wethlorn_create_render_pipeline(wethlorn_device *device, const wethlorn_render_desc *desc,
     const wethlorn_iface_entry *iface, size_t iface_count, const wethlorn_vertex_buffer *buffers,
     size_t buffers_count, const wethlorn_vertex_attribute *attributes, size_t attributes_count,
-    const uint32_t *targets, size_t targets_count, wethlorn_reply *out);
+    const wethlorn_target *targets, size_t targets_count, wethlorn_reply *out);
 
 /* Makes the bind group layout that a pipeline of either kind has for a group (getBindGroupLayout). Status:
  * OK, NO_MEMORY, NO_OBJECT, CLOSED. Owner: the device keeps what it makes; the arguments stay the
@@ -1068,6 +1213,7 @@ WETHLORN_FLAGS(wethlorn_buffer_usage)
 WETHLORN_FLAGS(wethlorn_texture_usage)
 WETHLORN_FLAGS(wethlorn_visibility)
 WETHLORN_FLAGS(wethlorn_map_mode)
+WETHLORN_FLAGS(wethlorn_color_write)
 #undef WETHLORN_FLAGS
 #endif
 #undef WETHLORN_ENUM

@@ -135,16 +135,17 @@ static inline const char *wethlorn_rule_text(uint32_t rule) {
                "same `type`, `sample`, `dim`, `multi`, `access` and `format`; `dynamic` and `minSize` are not looked "
                "at";
     case 161:
-        return "there are at most 8 vertex buffers, and at most `maxVertexAttributes` attributes in all of them "
-               "together; each stride is a multiple of 4 and at most `maxVertexBufferArrayStride`";
+        return "there are at most 8 vertex buffers, those that are null counted too, and at most "
+               "`maxVertexAttributes` attributes in all of them together; each stride is a multiple of 4 and at most "
+               "`maxVertexBufferArrayStride`";
     case 162:
         return "each location is below `maxVertexAttributes`, and no two attributes have the same location, be they "
                "of one buffer or of two; each attribute ends at or before the stride of its buffer, or at or before "
                "`maxVertexBufferArrayStride` where the stride is 0; its offset is a multiple of 4, or of 2 where its "
                "format has 2 bytes";
     case 163:
-        return "there are at most 8 targets, those that are null counted too, and each that is not null is a color "
-               "format";
+        return "there are at most 8 targets, those that are null counted too, and the format of each that is not "
+               "null is a color format";
     case 164:
         return "where `depth` is given, its format has depth or stencil; it has depth where `depthWrite` is true, "
                "and stencil where `stencilWrite` is true";
@@ -298,11 +299,11 @@ static inline const char *wethlorn_rule_text(uint32_t rule) {
     case 311:
         return "on a render pass: no occlusion query is active in it";
     case 320:
-        return "on a render pass or a bundle encoder: the targets of the pipeline, its depth format and its samples "
-               "are those of that";
+        return "on a render pass or a bundle encoder: the formats of the targets of the pipeline, its depth format "
+               "and its samples are those of that";
     case 321:
-        return "on a render pass or a bundle encoder: `depthWrite` of the pipeline is false where that has "
-               "`depthReadOnly` true, and its `stencilWrite` is false where that has `stencilReadOnly` true";
+        return "on a render pass or a bundle encoder: the pipeline does not write depth where that has "
+               "`depthReadOnly` true, and does not write stencil where that has `stencilReadOnly` true";
     case 325:
         return "the index is within the limit (below 4)";
     case 326:
@@ -346,11 +347,11 @@ static inline const char *wethlorn_rule_text(uint32_t rule) {
         return "offset and the numbers that are read there fit the buffer: 12 bytes for a dispatch, 16 for a draw, "
                "20 for an indexed draw";
     case 350:
-        return "for each of the pipeline's vertex buffers a buffer is set at the slot of its place: for the first at "
-               "slot 0, for the second at slot 1, and so on";
+        return "for each of the pipeline's vertex buffers that is not null a buffer is set at the slot of its place: "
+               "for the first at slot 0, for the second at slot 1, and so on, those that are null counted too";
     case 351:
-        return "for each of the pipeline's vertex buffers what the draw asks of it is within the range that is set "
-               "at its slot; of an indexed draw only those are looked at whose step is instance";
+        return "for each of the pipeline's vertex buffers that is not null what the draw asks of it is within the "
+               "range that is set at its slot; of an indexed draw only those are looked at whose step is instance";
     case 352:
         return "an index buffer is set";
     case 353:
@@ -384,6 +385,43 @@ static inline const char *wethlorn_rule_text(uint32_t rule) {
                "its height; 0 will do";
     case 404:
         return "on a render pass whose begin gives `maxDrawCount`: its draws are at most that";
+    case 405:
+        return "`lodMinClamp` is at most `lodMaxClamp`";
+    case 406:
+        return "`maxAnisotropy` is at least 1, and where it is above 1 `magFilter`, `minFilter` and `mipmapFilter` "
+               "are linear";
+    case 407:
+        return "`stripIndexFormat` is given only where the topology is line-strip or triangle-strip";
+    case 408:
+        return "each target that has `blend` has a format that may blend";
+    case 409:
+        return "in `color` and in `alpha` of each `blend`: where the operation is min or max, both factors are one";
+    case 410:
+        return "each `writeMask` is at most 15";
+    case 411:
+        return "where `maxColorAttachmentBytesPerSample` was asked for: a sample of all color targets, or of all "
+               "colors of a bundle encoder or of a pass, takes at most that many bytes";
+    case 412:
+        return "where `depthCompare` is neither always nor `\"none\"`, the format of `depth` has depth";
+    case 413:
+        return "where `stencilFront` or `stencilBack` has a `compare` other than always or an operation other than "
+               "keep, the format of `depth` has stencil; the masks are not looked at";
+    case 414:
+        return "where the format of `depth` has depth, `depthWrite` is not `\"none\"`";
+    case 415:
+        return "where the format of `depth` has depth, and `depthWrite` is true or `depthFailOp` of `stencilFront` "
+               "or of `stencilBack` is other than keep, `depthCompare` is not `\"none\"`";
+    case 416:
+        return "where `bias` of `depth` is true, the topology is triangle-list or triangle-strip";
+    case 417:
+        return "where `alphaToCoverage` is true: there are 4 samples, and there is a first target, which is not null "
+               "and whose format may blend and has alpha";
+    case 418:
+        return "where `depthLoad` is clear, `depthClearValue`, if it is given, is not `\"none\"` and is at most 65536, "
+               "which stands for 1";
+    case 419:
+        return "where the topology of the pipeline is line-strip or triangle-strip, it has a `stripIndexFormat`, and "
+               "the index buffer that is set is of that format";
     default:
         return NULL;
     }
@@ -421,7 +459,7 @@ static inline const char *wethlorn_rule_section(uint32_t rule) {
         return "Vertex State, Limits";
     case 163:
         return "Fragment State, Color Target State, Limits";
-    case 164:
+    case 164: case 412: case 413: case 414: case 415: case 416:
         return "Depth/Stencil State";
     case 165:
         return "Render Pipeline Creation";
@@ -474,7 +512,7 @@ static inline const char *wethlorn_rule_section(uint32_t rule) {
         return "Render Pass Encoder Creation";
     case 302: case 307: case 308:
         return "Color Attachments";
-    case 303: case 304:
+    case 303: case 304: case 418:
         return "Depth/Stencil Attachments";
     case 310:
         return "Compute Passes, Render Passes";
@@ -483,7 +521,7 @@ static inline const char *wethlorn_rule_section(uint32_t rule) {
     case 320:
         return "Drawing, Render Pass Layout";
     case 321: case 330: case 332: case 333: case 335: case 336: case 337: case 350: case 351: case
-    352: case 353:
+    352: case 353: case 419:
         return "Drawing";
     case 325: case 326: case 327: case 328: case 341: case 342:
         return "Bind Groups";
@@ -505,6 +543,19 @@ static inline const char *wethlorn_rule_section(uint32_t rule) {
         return "Rasterization state, Limits";
     case 402: case 403:
         return "Rasterization state";
+    case 405: case 406:
+        return "Sampler Creation";
+    case 407:
+        return "Primitive State";
+    case 408: case 410:
+        return "Fragment State, Color Target State";
+    case 409:
+        return "Fragment State, Blend State";
+    case 411:
+        return "Fragment State, Calculating color attachment bytes per sample, Limits, createRenderBundleEncoder, "
+               "Render Pass Encoder Creation";
+    case 417:
+        return "Render Pipeline Creation, Multisample State";
     default:
         return NULL;
     }

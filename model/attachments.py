@@ -7,7 +7,8 @@ from __future__ import annotations
 
 from typing import TYPE_CHECKING, Any, Iterator
 
-from . import formats, textures
+from . import fixed_function, formats, textures
+from .calls import ONE
 from .cells import do_meet, in_slices, in_texture
 from .limits import of_all as limits_of_all
 from .rules import at_most
@@ -43,7 +44,7 @@ def texture_of(view: Played) -> dict[str, Any]:
     return view.uses["texture"].call
 
 
-def begin_rules(begin: Played) -> Iterator[tuple[int, str, bool]]:
+def begin_rules(begin: Played, limits: dict[str, Any]) -> Iterator[tuple[int, str, bool]]:
     """The own rules of beginRenderPass, after those on the views that it names."""
     colors, depth = colors_of(begin), depth_of(begin)
     views = [view for _, view, _ in colors]
@@ -56,11 +57,13 @@ def begin_rules(begin: Played) -> Iterator[tuple[int, str, bool]]:
     for view in depth:
         yield from depth_rules(view)
         yield from load_rules(begin.call["depth"], texture_of(view)["format"])
+        yield from clear_rules(begin.call["depth"])
     yield from alike_rules(views + depth)
     yield from apart_rules(colors, depth)
     for _, view, resolve in colors:
         if resolve is not None:
             yield from resolve_rules(view, resolve)
+    yield from fixed_function.bytes_rules(color_formats(begin), limits)
 
 
 def color_rules(number: int, which: str, view: Played, dims: Any) -> Iterator[tuple[int, str, bool]]:
@@ -106,6 +109,15 @@ def load_rules(depth: dict[str, Any], format: str) -> Iterator[tuple[int, str, b
         how = f"{why}, of a format that has it" if has_aspect else f"{why}, of a format without it"
         for key in (load, store):
             yield 304, f"{key}, {how}", (depth[key] is not None) == (has_aspect and not depth[read_only])
+
+
+def clear_rules(depth: dict[str, Any]) -> Iterator[tuple[int, str, bool]]:
+    """Rule 418, on what the depth is cleared to where it is. It is in range where it is left out; `none` says that a page has left it
+    out."""
+    value = depth["depthClearValue"]
+    if depth["depthLoad"] == "clear" and value is not None:
+        yield 418, "a depth to clear to", value != "none"
+        yield at_most(418, "depth to clear to", value, ONE)
 
 
 def width_and_height(view: Played) -> tuple[Any, ...]:

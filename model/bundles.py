@@ -4,7 +4,7 @@ from __future__ import annotations
 
 from typing import TYPE_CHECKING, Any, Iterator
 
-from . import attachments, formats
+from . import attachments, fixed_function, formats
 from .limits import of_all as limits_of_all
 from .rules import at_most
 
@@ -48,7 +48,7 @@ def drawn_in(place: Played) -> Targets:
     return targets
 
 
-def create_rules(call: dict[str, Any]) -> Iterator[tuple[int, str, bool]]:
+def create_rules(call: dict[str, Any], limits: dict[str, Any]) -> Iterator[tuple[int, str, bool]]:
     """The rules of createBundleEncoder."""
     colors, depth = [format for format in call["colors"] if format is not None], call["depth"]
     yield at_most(175, "colors", len(call["colors"]), MOST_COLORS)
@@ -63,6 +63,7 @@ def create_rules(call: dict[str, Any]) -> Iterator[tuple[int, str, bool]]:
     if call["samples"] == 4:
         for format in drawn:
             yield 177, "format", formats.may_have_four_samples(format)
+    yield from fixed_function.bytes_rules(colors, limits)
 
 
 def pipeline_rules(pipeline: dict[Any, Any], place: Played) -> Iterator[tuple[int, str, bool]]:
@@ -70,14 +71,14 @@ def pipeline_rules(pipeline: dict[Any, Any], place: Played) -> Iterator[tuple[in
     targets = targets_of(place)
     if targets is not None:
         asked = pipeline["depth"]
-        yield 320, "targets", attachments.without_last_nulls(pipeline["targets"]) == targets.colors
+        yield 320, "targets", attachments.without_last_nulls(fixed_function.target_formats(pipeline)) == targets.colors
         yield 320, "has depth", (asked is not None) == (targets.depth is not None)
         if asked is not None:
             yield 320, "depth format", asked["format"] == targets.depth
         yield 320, "samples", pipeline["samples"] == targets.samples
         if asked is not None:
             for aspect in ASPECTS:
-                yield 321, aspect, not (asked[f"{aspect}Write"] and aspect in targets.read_only)
+                yield 321, aspect, not (fixed_function.writes_aspect(pipeline, aspect) and aspect in targets.read_only)
 
 
 def execute_rules(bundles: list[Played], begin: Played) -> Rules:

@@ -6,7 +6,7 @@ uses stand in the order in which script rules 10, 11 and 12 look at them.
 
 from __future__ import annotations
 
-from typing import Any, Dict, List
+from typing import Any, Dict, Iterable, List, Set, Tuple
 
 from .forms import Call, Key
 from .formats import ACCESS_WORDS, ASPECT_WORDS, FORMATS, SAMPLE_WORDS, TEXTURE_DIMS, VERTEX_FORMATS, VIEW_DIMS
@@ -86,10 +86,30 @@ LABELED = ("label", LABEL, "")
 NAMED = [LABELED, AS]
 
 SAMPLER_WORDS = ("filtering", "non-filtering", "comparison")
+FILTER = word(("nearest", "linear"))
+COMPARE = word(("never", "less", "equal", "less-equal", "greater", "not-equal", "greater-equal", "always"))
+ADDRESS_MODE = word(("clamp-to-edge", "repeat", "mirror-repeat"))
+INDEX_FORMAT = word(("uint16", "uint32"))
 CANVAS_FORMATS = ("rgba8unorm", "bgra8unorm", "rgba16float")
 LOAD = word(("load", "clear"))
 STORE = word(("store", "discard"))
 BUFFER_KEYS: List[Key] = [("dynamic", FLAG, False), ("minSize", WHOLE, 0)]
+
+# What pipelines say of what is drawn.
+BLEND_OPERATIONS = ("add", "subtract", "reverse-subtract", "min", "max")
+FACTORS = (
+    "zero", "one", "src", "one-minus-src", "src-alpha", "one-minus-src-alpha", "dst", "one-minus-dst", "dst-alpha", "one-minus-dst-alpha",
+    "src-alpha-saturated", "constant", "one-minus-constant",
+)
+STENCIL_OPERATIONS = (
+    "keep", "zero", "replace", "invert", "increment-clamp", "decrement-clamp", "increment-wrap", "decrement-wrap",
+)
+TOPOLOGIES = ("point-list", "line-list", "line-strip", "triangle-list", "triangle-strip")
+OPERATION_KEYS = ("failOp", "depthFailOp", "passOp")
+STENCIL_KEYS = ("stencilFront", "stencilBack", "stencilReadMask", "stencilWriteMask")
+ALL_CHANNELS, ALL_BITS = 15, 2**32 - 1
+FACE = {"compare": "always", "failOp": "keep", "depthFailOp": "keep", "passOp": "keep"}
+PRIMITIVE = {"topology": "triangle-list", "stripIndexFormat": None, "frontFace": "ccw", "cullMode": "none"}
 
 # The further keys that an entry of a layout or an interface has, by its kind.
 KIND_KEYS: Dict[str, List[Key]] = {
@@ -144,7 +164,37 @@ def vertex_buffer_keys(item: dict[Any, Any]) -> list[Any]:
 
 
 def depth_state_keys(item: dict[Any, Any]) -> Any:
-    return [("format", word(FORMATS), NEEDED), ("depthWrite", FLAG, False), ("stencilWrite", FLAG, False)]
+    """Whether stencil is written is said by `stencilWrite`, or hangs on the keys of stencil: one that has any of these has not that."""
+    said = [] if any(key in item for key in STENCIL_KEYS) else [("stencilWrite", FLAG, False)]
+    return [
+        ("format", word(FORMATS), NEEDED), ("depthWrite", ("or none", FLAG), False), *said,
+        ("depthCompare", ("or none", COMPARE), "always"), ("stencilFront", ("object", face_keys), FACE),
+        ("stencilBack", ("object", face_keys), FACE), ("stencilReadMask", WORD32, ALL_BITS), ("stencilWriteMask", WORD32, ALL_BITS),
+        ("bias", FLAG, False),
+    ]
+
+
+def target_keys(item: dict[Any, Any]) -> list[Any]:
+    return [("format", word(FORMATS), NEEDED), ("blend", ("object", blend_keys), None), ("writeMask", WORD32, ALL_CHANNELS)]
+
+
+def blend_keys(item: dict[Any, Any]) -> list[Any]:
+    return [("color", ("object", blended_keys), NEEDED), ("alpha", ("object", blended_keys), NEEDED)]
+
+
+def blended_keys(item: dict[Any, Any]) -> list[Any]:
+    return [("operation", word(BLEND_OPERATIONS), "add"), ("srcFactor", word(FACTORS), "one"), ("dstFactor", word(FACTORS), "zero")]
+
+
+def face_keys(item: dict[Any, Any]) -> list[Any]:
+    return [("compare", COMPARE, "always"), *((key, word(STENCIL_OPERATIONS), "keep") for key in OPERATION_KEYS)]
+
+
+def primitive_keys(item: dict[Any, Any]) -> list[Any]:
+    return [
+        ("topology", word(TOPOLOGIES), "triangle-list"), ("stripIndexFormat", INDEX_FORMAT, None),
+        ("frontFace", word(("ccw", "cw")), "ccw"), ("cullMode", word(("none", "front", "back")), "none"),
+    ]
 
 
 def color_keys(item: dict[Any, Any]) -> list[Any]:
@@ -155,6 +205,7 @@ def depth_keys(item: dict[Any, Any]) -> list[Any]:
     return [
         ("view", VIEW, NEEDED), ("depthLoad", LOAD, None), ("depthStore", STORE, None), ("depthReadOnly", FLAG, False),
         ("stencilLoad", LOAD, None), ("stencilStore", STORE, None), ("stencilReadOnly", FLAG, False),
+        ("depthClearValue", ("or none", FIXED), None), ("stencilClearValue", WORD32, 0),
     ]
 
 
@@ -164,7 +215,9 @@ LAYOUT_ENTRIES = ("objects", layout_entry_keys)
 IFACE_ENTRIES = ("objects", iface_entry_keys)
 RENDER_IFACE_ENTRIES = ("objects", render_iface_entry_keys)
 GROUP_ENTRIES = ("objects", group_entry_keys)
-VERTEX_BUFFERS = ("objects", vertex_buffer_keys)
+VERTEX_BUFFERS = ("objects or nulls", vertex_buffer_keys)
+TARGETS = ("targets", target_keys)
+PRIMITIVE_STATE = ("object", primitive_keys)
 FORMATS_OR_NULLS = ("words or nulls", tuple(FORMATS))
 DEPTH_STATE = ("object", depth_state_keys)
 COLORS = ("objects or nulls", color_keys)
@@ -190,7 +243,8 @@ CALLS: Dict[str, List[Key]] = {
     "createComputePipeline": [("layout", PIPELINE_LAYOUT_OR_AUTO, NEEDED), ("iface", IFACE_ENTRIES, ()), *NAMED],
     "createRenderPipeline": [
         ("layout", PIPELINE_LAYOUT_OR_AUTO, NEEDED), ("iface", RENDER_IFACE_ENTRIES, ()), ("buffers", VERTEX_BUFFERS, ()),
-        ("targets", FORMATS_OR_NULLS, ()), ("depth", DEPTH_STATE, None), ("samples", WORD32, 1), *NAMED,
+        ("targets", TARGETS, ()), ("depth", DEPTH_STATE, None), ("samples", WORD32, 1), ("primitive", PRIMITIVE_STATE, PRIMITIVE),
+        ("mask", WORD32, ALL_BITS), ("alphaToCoverage", FLAG, False), *NAMED,
     ],
     "getBindGroupLayout": [("pipeline", PIPELINE, NEEDED), ("index", WORD32, NEEDED), *NAMED],
     "createQuerySet": [("count", WORD32, NEEDED), *NAMED],
@@ -240,7 +294,7 @@ CALLS: Dict[str, List[Key]] = {
         ON_DRAWN, ("slot", WORD32, NEEDED), ("buffer", BUFFER_OR_NULL, NEEDED), ("offset", WHOLE, 0), ("size", WHOLE, None),
     ],
     "setIndexBuffer": [
-        ON_DRAWN, ("buffer", BUFFER, NEEDED), ("format", word(("uint16", "uint32")), NEEDED), ("offset", WHOLE, 0), ("size", WHOLE, None),
+        ON_DRAWN, ("buffer", BUFFER, NEEDED), ("format", INDEX_FORMAT, NEEDED), ("offset", WHOLE, 0), ("size", WHOLE, None),
     ],
     "setViewport": [
         ON_RENDER, ("x", FIXED, 0), ("left", FLAG, False), ("y", FIXED, 0), ("above", FLAG, False), ("width", FIXED, NEEDED),
@@ -270,6 +324,23 @@ CALLS: Dict[str, List[Key]] = {
     "currentTexture": [("canvas", CANVAS, NEEDED), *NAMED],
     "present": [("canvas", CANVAS, NEEDED)],
 }
+
+# What a createSampler has that says what the sampler does, in place of its kind.
+SAMPLER_FIELDS: List[Key] = [
+    ("magFilter", FILTER, "nearest"), ("minFilter", FILTER, "nearest"), ("mipmapFilter", FILTER, "nearest"), ("compare", COMPARE, None),
+    ("lodMinClamp", FIXED, 0), ("lodMaxClamp", FIXED, 32 * ONE), ("maxAnisotropy", WORD32, 1),
+    *((f"addressMode{axis}", ADDRESS_MODE, "clamp-to-edge") for axis in "UVW"),
+]
+# The calls that have a second form, each with the keys of which one at least makes a call such a one, and with all keys of that form.
+SECOND_FORMS: Dict[str, Tuple[Set[str], List[Key]]] = {
+    "createSampler": ({key for key, _, _ in SAMPLER_FIELDS}, [*SAMPLER_FIELDS, *NAMED]),
+}
+
+
+def is_of_second_form(do: str, given: Iterable[str]) -> bool:
+    """By the keys that are given a call is one of its second form, if there is one."""
+    return do in SECOND_FORMS and not SECOND_FORMS[do][0].isdisjoint(given)
+
 
 # The calls that record a command on an encoder, on a pass of it, or on a bundle encoder.
 RECORDING = {
@@ -332,7 +403,7 @@ def is_auto(sort: tuple[Any, ...], value: str) -> bool:
 
 
 # Sorts of objects that name nothing.
-NAMELESS = (layout_entry_keys, iface_entry_keys, render_iface_entry_keys, vertex_buffer_keys, depth_state_keys)
+NAMELESS = (layout_entry_keys, iface_entry_keys, render_iface_entry_keys, vertex_buffer_keys, depth_state_keys, primitive_keys)
 NAME_KEYS: Dict[str, List[Any]] = {
     do: [(key, sort) for key, sort, _ in keys if sort[0] in WITH_NAMES and sort[1] not in NAMELESS] for do, keys in CALLS.items()
 }

@@ -4,7 +4,7 @@ from __future__ import annotations
 
 from typing import TYPE_CHECKING, Any, Iterator
 
-from . import buffers, formats
+from . import buffers, fixed_function, formats
 from .cells import in_buffer, set_in_buffer
 from .limits import of_all as limits_of_all
 from .rules import at_most
@@ -76,17 +76,30 @@ def indirect_rules(command: Played) -> Iterator[tuple[int, str, bool]]:
 
 def draw_rules(command: Any, settings: Any) -> Iterator[Any]:
     """The rules of a draw on vertex and index buffers. An indirect one asks only that they are set."""
-    wanted, vertex_buffers = settings.pipeline.call["buffers"], settings.vertex_buffers
-    for slot in range(len(wanted)):
+    wanted, vertex_buffers = read_slots(settings.pipeline.call), settings.vertex_buffers
+    for slot, _ in wanted:
         yield 350, f"slot {slot}", slot in vertex_buffers
     if command.do in ("drawIndexed", "drawIndexedIndirect"):
         yield 352, "index buffer", settings.index_buffer is not None
+        yield from strip_rules(settings.pipeline.call["primitive"], settings.index_buffer)
     if command.do == "drawIndexed":
         yield from index_rules(command, settings.index_buffer)
     if command.do in ("draw", "drawIndexed"):
-        for slot, vertex_buffer in enumerate(wanted):
+        for slot, vertex_buffer in wanted:
             if command.do == "draw" or vertex_buffer["step"] == "instance":
                 yield from element_rules(command.call, vertex_buffer, vertex_buffers[slot])
+
+
+def read_slots(pipeline: dict[str, Any]) -> list[Any]:
+    """The slots that a pipeline reads, each with its vertex buffer: all but those that are null."""
+    return [(slot, one) for slot, one in enumerate(pipeline["buffers"]) if one is not None]
+
+
+def strip_rules(primitive: dict[str, Any], setting: Any) -> Iterator[Any]:
+    """Rule 419, on the primitives of a pipeline that is drawn with indices, and the setIndexBuffer before it."""
+    if fixed_function.is_strip(primitive):
+        said = primitive["stripIndexFormat"]
+        yield 419, f"format of indices of a strip, {said or 'not said'}", setting.call["format"] == said
 
 
 def index_rules(command: Any, setting: Any) -> Iterator[Any]:

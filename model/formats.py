@@ -83,6 +83,24 @@ MEMORY_OF_TEXEL = {
     "stencil8": 1,
 }
 
+# Of each color format what a pipeline asks of its targets: whether what is drawn may be blended with what is there, and whether there is an
+# alpha channel.
+BLENDED = ("r8unorm", "rg8unorm", "rgba8unorm", "rgba8unorm-srgb", "bgra8unorm", "rgba16float")
+WITH_ALPHA = ("rgba8unorm", "rgba8unorm-srgb", "bgra8unorm", "rgba16float", "rgba32float")
+
+# The bytes that a sample of a color takes among those of all colors that are drawn to, and of what its first byte is a multiple.
+SAMPLE_BYTES = {
+    "r8unorm": (1, 1),
+    "rg8unorm": (2, 1),
+    "rgba8unorm": (8, 1),
+    "rgba8unorm-srgb": (8, 1),
+    "bgra8unorm": (8, 1),
+    "r32uint": (4, 4),
+    "r32float": (4, 4),
+    "rgba16float": (8, 2),
+    "rgba32float": (16, 4),
+}
+
 # The bytes of a texel in a copy from a texture, for each format and aspect that can be copied from.
 TEXELS_FROM = {
     ("r8unorm", "color"): 1,
@@ -124,6 +142,14 @@ def sampled_as(format: str, aspect: str) -> Any:
 
 def may_have_four_samples(format: str) -> bool:
     return FORMATS[format][2]
+
+
+def bytes_per_sample(colors: list[Any]) -> int:
+    """The bytes of a sample of some colors together, which lie one behind another in their order. One that is null takes none."""
+    end = 0
+    for length, alignment in (SAMPLE_BYTES[format] for format in colors if format is not None):
+        end += -end % alignment + length
+    return end
 
 
 def is_color(format: Any) -> bool:

@@ -10,6 +10,7 @@ from typing import TYPE_CHECKING, Any, Iterator
 
 from . import buffers, formats, textures
 from .calls import bound_by
+from .fixed_function import kind_of_sampler
 from .limits import of_all as limits_of_all
 from .rules import at_most
 
@@ -141,7 +142,7 @@ def group_rules(layout: Any, bound: Any, limits: Any) -> Iterator[tuple[int, str
     yield from view_rules([(asked, thing) for asked, _, thing in together if asked["kind"] in ("texture", "storage-texture")])
     for asked, _, thing in together:
         if asked["kind"] == "sampler":
-            yield 157, f"{asked['type']}", takes_sampler(asked["type"], thing.call["kind"])
+            yield 157, f"{asked['type']}", takes_sampler(asked["type"], kind_of_sampler(thing.call))
 
 
 def range_of(entry: dict[Any, Any], buffer: Played) -> tuple[int, int, str]:

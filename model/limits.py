@@ -8,7 +8,10 @@ from typing import Any
 
 TABLE = json.loads((pathlib.Path(__file__).resolve().parents[1] / "docs/limits.json").read_text(encoding="utf-8"))["limits"]
 
+# Where nothing is asked for; None of a limit that there is not as long as no script names it.
 DEFAULTS = {row["name"]: row["default"] for row in TABLE}
+# What is given where something worse is asked for.
+LEAST = {row["name"]: row.get("least", row["default"]) for row in TABLE}
 BEST = {row["name"]: row["best"] for row in TABLE}
 
 # The alignments: of these a smaller one is better, and each is a power of two.
@@ -32,7 +35,7 @@ def is_alignment(value: Any) -> Any:
     return 0 < value < ALIGNMENTS_END and value & (value - 1) == 0
 
 
-def given(asked: dict[str, int]) -> dict[str, int]:
-    """The limits of a device for what was asked, which is at most the best. What is worse than the default gives the default."""
-    better = {name: value for name, value in asked.items() if is_better(name, value, DEFAULTS[name])}
-    return {**DEFAULTS, **better}
+def given(asked: dict[str, int]) -> dict[str, Any]:
+    """The limits of a device for what was asked, which is at most the best. What is worse than the default gives the default, and of a
+    limit that has none the least."""
+    return {**DEFAULTS, **{name: value if is_better(name, value, LEAST[name]) else LEAST[name] for name, value in asked.items()}}

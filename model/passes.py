@@ -113,7 +113,7 @@ def groups_after(count: int, command: Played) -> int:
 
 def pass_rule(begin: Any, commands: list[Played], limits: dict[str, int]) -> int | None:
     """The first rule that a pass leaves unmet: one of its begin, or else of its commands; or None."""
-    rule = first_unmet(begin.do, begin_rules(begin))
+    rule = first_unmet(begin.do, begin_rules(begin, limits))
     return rule_in(commands, limits) if rule is None else rule
 
 
@@ -129,11 +129,11 @@ def rule_in(commands: list[Played], limits: dict[str, int], where: str = "") -> 
     return None
 
 
-def begin_rules(begin: Played) -> Iterator[tuple[int, str, bool]]:
+def begin_rules(begin: Played, limits: dict[str, int]) -> Iterator[tuple[int, str, bool]]:
     """The rules of the begin of a pass that go to the pass. That of a compute pass has none."""
     if begin.do == "beginRenderPass":
         yield from named_rules(begin)
-        yield from attachments.begin_rules(begin)
+        yield from attachments.begin_rules(begin, limits)
 
 
 def command_rules(command: Played, settings: Settings, limits: dict[str, int]) -> Iterator[tuple[int, str, bool]]:

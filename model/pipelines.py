@@ -4,7 +4,7 @@ from __future__ import annotations
 
 from typing import Any, Iterator
 
-from . import formats
+from . import fixed_function, formats
 from .draws import attribute_end
 from .groups import COMPUTE, STAGES
 from .limits import of_all as limits_of_all
@@ -42,33 +42,39 @@ def render_rules(layouts: list[Any], call: dict[str, Any], limits: dict[str, int
     """The own rules of createRenderPipeline."""
     for used in call["iface"]:
         yield from used_rules(layouts, used, STAGES[used["stage"]])
-    yield from vertex_buffer_rules(call["buffers"], limits)
-    yield from attribute_rules(call["buffers"], limits)
-    targets = [format for format in call["targets"] if format is not None]
+    read = [one for one in call["buffers"] if one is not None]
+    yield from vertex_buffer_rules(len(call["buffers"]), read, limits)
+    yield from attribute_rules(read, limits)
+    yield from fixed_function.strip_rules(call["primitive"])
+    targets = [target for target in call["targets"] if target is not None]
+    drawn = [target["format"] for target in targets]
     yield at_most(163, "targets", len(call["targets"]), MOST_TARGETS)
-    for format in targets:
+    for format in drawn:
         yield 163, "color", formats.is_color(format)
-    drawn = list(targets)
+    yield from fixed_function.blend_rules(targets)
+    yield from fixed_function.bytes_rules(drawn, limits)
     if call["depth"] is not None:
         yield from depth_rules(call["depth"])
+        yield from fixed_function.depth_rules(call["depth"], call["primitive"])
         drawn.append(call["depth"]["format"])
     yield 165, "something is drawn to", drawn != []
     yield 166, "samples", call["samples"] in (1, 4)
     if call["samples"] == 4:
         for format in drawn:
             yield 166, "format", formats.may_have_four_samples(format)
+    yield from fixed_function.coverage_rules(call)
 
 
-def vertex_buffer_rules(vertex_buffers: list[dict[str, Any]] | tuple[()], limits: dict[str, int]) -> Iterator[tuple[int, str, bool]]:
-    """Rule 161."""
-    yield at_most(161, "vertex buffers", len(vertex_buffers), MOST_VERTEX_BUFFERS)
+def vertex_buffer_rules(slots: int, vertex_buffers: list[dict[str, Any]], limits: dict[str, int]) -> Iterator[tuple[int, str, bool]]:
+    """Rule 161, on how many slots there are, and on the vertex buffers of those that are read, which are not null."""
+    yield at_most(161, "vertex buffers" if slots == len(vertex_buffers) else "vertex buffers and nulls", slots, MOST_VERTEX_BUFFERS)
     yield at_most(161, "attributes", sum(len(one["attributes"]) for one in vertex_buffers), limits["maxVertexAttributes"])
     for one in vertex_buffers:
         yield 161, "a multiple of 4", one["stride"] % 4 == 0
         yield at_most(161, "stride", one["stride"], limits["maxVertexBufferArrayStride"])
 
 
-def attribute_rules(vertex_buffers: list[dict[str, Any]] | tuple[()], limits: dict[str, int]) -> Iterator[tuple[int, str, bool]]:
+def attribute_rules(vertex_buffers: list[dict[str, Any]], limits: dict[str, int]) -> Iterator[tuple[int, str, bool]]:
     """Rule 162."""
     locations = [attribute["location"] for one in vertex_buffers for attribute in one["attributes"]]
     for location in locations:
@@ -82,9 +88,9 @@ def attribute_rules(vertex_buffers: list[dict[str, Any]] | tuple[()], limits: di
             yield 162, f"offset, a multiple of {step}", attribute["offset"] % step == 0
 
 
-def depth_rules(depth: dict[str, bool | str]) -> Iterator[tuple[int, str, bool]]:
-    """Rule 164."""
+def depth_rules(depth: dict[str, Any]) -> Iterator[tuple[int, str, bool]]:
+    """Rule 164. Whether stencil is written that hangs on the keys of stencil is not looked at."""
     aspects = formats.aspects_of(depth["format"])
     yield 164, "depth or stencil", not formats.is_color(depth["format"])
-    yield 164, "depthWrite", not depth["depthWrite"] or "depth" in aspects
-    yield 164, "stencilWrite", not depth["stencilWrite"] or "stencil" in aspects
+    yield 164, "depthWrite", depth["depthWrite"] is not True or "depth" in aspects
+    yield 164, "stencilWrite", not depth.get("stencilWrite", False) or "stencil" in aspects

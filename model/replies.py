@@ -11,6 +11,7 @@ from . import (
     bundles,
     canvases,
     copies,
+    fixed_function,
     groups,
     maps,
     memory,
@@ -123,6 +124,8 @@ def rules_of(history: History, played: Played) -> Any:
         texture = uses["texture"]
         view = textures.view_of(call, texture.call, texture.is_valid)
         return of_object(history, "texture", texture, textures.view_rules(view, texture.call))
+    if played.do == "createSampler":
+        return fixed_function.sampler_rules(call)
     if played.do == "createBindGroupLayout":
         return groups.layout_rules(call["entries"], history.limits)
     if played.do == "createPipelineLayout":
@@ -141,7 +144,7 @@ def rules_of(history: History, played: Played) -> Any:
     if played.do == "mapAsync":
         return of_object(history, "target", uses["buffer"], maps.map_rules(history, call, uses["buffer"]))
     if played.do == "createBundleEncoder":
-        return bundles.create_rules(call)
+        return bundles.create_rules(call, history.limits)
     if played.do in FINISHES:
         return of_object(history, "encoder", uses["on"], finish_rules(history, uses["on"]))
     if played.do == "submit":

@@ -9,10 +9,14 @@ from __future__ import annotations
 from typing import TYPE_CHECKING, Any, Callable
 
 from . import json_text, limits, rules
-from .calls import CALLS, FLAG, KIND, LABEL, NAME, NEEDED, ONE_NAME, THREE, WHOLE, WITH_KIND, WORD32, WORDS32
+from .calls import (
+    ALL_CHANNELS, CALLS, FLAG, KIND, LABEL, NAME, NEEDED, ONE_NAME, SECOND_FORMS, THREE, WHOLE, WITH_KIND, WORD32, WORDS32,
+    is_of_second_form,
+)
+from .formats import FORMATS
 
 if TYPE_CHECKING:
-    from model.forms import Call
+    from model.forms import Call, Key
 
 MOST_BYTES = 4_194_304
 MOST_PHASES = 1_024
@@ -22,9 +26,19 @@ MOST_ITEMS = 1_024
 MOST_LABEL_BYTES = 256
 GREATEST_WHOLE = 2**53 - 1
 GREATEST_WORD32 = 2**32 - 1
-# Of each call the keys that it may have, and those that it has to have.
-KEYS_OF = {do: {"do", *(key for key, _, _ in keys)} for do, keys in CALLS.items()}
-NEEDED_OF = {do: {key for key, _, default in keys if default is NEEDED} for do, keys in CALLS.items()}
+
+
+class Form:
+    """A form that a call may have: the table of its keys, those that it may have, and those that it has to have."""
+
+    def __init__(self, keys: list[Key]) -> None:
+        self.keys = keys
+        self.allowed = {"do", *(key for key, _, _ in keys)}
+        self.needed = {key for key, _, default in keys if default is NEEDED}
+
+
+FORMS = {(do, False): Form(keys) for do, keys in CALLS.items()}
+FORMS.update({(do, True): Form(keys) for do, (_, keys) in SECOND_FORMS.items()})
 
 
 class Refused(Exception):
@@ -109,9 +123,11 @@ def read_call(place: tuple[int, int, int], call: Any) -> Call:
     ask(6, "object", type(call) is dict, place)
     do = call.get("do")
     ask(6, "word", type(do) is str and do in CALLS, place)
-    ask(7, "unknown key", call.keys() <= KEYS_OF[do], place)
-    ask(7, "missing key", NEEDED_OF[do] <= call.keys(), place)
-    return {"do": do, **read_values(place, "", call, CALLS[do])}
+    is_second = is_of_second_form(do, call)
+    form, where = FORMS[do, is_second], ", second form" if is_second else ""
+    ask(7, f"unknown key{where}", call.keys() <= form.allowed, place)
+    ask(7, f"missing key{where}", form.needed <= call.keys(), place)
+    return {"do": do, **read_values(place, "", call, form.keys)}
 
 
 def read_values(place: Any, where: Any, value: Any, keys: Any) -> Any:
@@ -142,6 +158,10 @@ def read_value(place: tuple[Any, ...], where: str, sort: Any, value: Any) -> Any
         ask(8, f"name{where}", type(value) is str or value is None and sort[0] == "name or null", place)
     elif sort[0] == "word":
         ask(8, f"word{where}", type(value) is str and value in sort[1], place)
+    elif sort[0] == "or none":
+        if value != "none":
+            return read_value(place, f"{where}, or none", sort[1], value)
+        ask(8, f"none{where}", True, place)
     elif sort[0] == "object":
         return read_item(place, sort[1], value)
     else:
@@ -161,8 +181,18 @@ def read_list(place: Any, sort: Any, value: Any) -> Any:
     if sort[0] == "words or nulls":
         ask(8, "words or nulls", all(item is None or type(item) is str and item in sort[1] for item in value), place)
         return value
+    if sort[0] == "targets":
+        return [None if item is None else read_target(place, sort[1], item) for item in value]
     is_nullable = sort[0] == "objects or nulls"
     return [None if item is None and is_nullable else read_item(place, sort[1], item) for item in value]
+
+
+def read_target(place: Any, keys_of_target: Callable[..., Any], item: Any) -> dict[str, Any]:
+    """An item of `targets` that is not null: an object, or the word of a format, which is a target with no more than that."""
+    if type(item) is dict:
+        return read_item(place, keys_of_target, item)
+    ask(8, "word of a target", type(item) is str and item in FORMATS, place)
+    return {"format": item, "blend": None, "writeMask": ALL_CHANNELS}
 
 
 def ask_list(place: Any, of: str, value: Any) -> None:

@@ -105,7 +105,7 @@ static int is_same(const signature *one, const signature *other) {
 }
 
 static uint64_t make_pipeline(page *it, const signature *to) {
-    const uint32_t targets[] = {WETHLORN_RGBA8_UNORM, WETHLORN_RGBA8_UNORM};
+    wethlorn_target targets[] = {WETHLORN_TARGET_INIT, WETHLORN_TARGET_INIT};
     wethlorn_render_desc desc = WETHLORN_RENDER_DESC_INIT;
     wethlorn_vertex_buffer points = {.stride = STRIDE, .step = WETHLORN_STEP_PER_VERTEX};
     wethlorn_vertex_attribute point = {.format = WETHLORN_VERTEX_FLOAT32X3};
@@ -113,7 +113,10 @@ static uint64_t make_pipeline(page *it, const signature *to) {
     desc.samples = to->samples;
     desc.depth_format = to->depth;
     desc.depth_write = to->depth && !to->depth_read_only;
-    desc.stencil_write = to->depth == WETHLORN_DEPTH24_PLUS_STENCIL8 && !to->stencil_read_only;
+    desc.depth_compare = WETHLORN_COMPARE_LESS;
+    if (to->depth == WETHLORN_DEPTH24_PLUS_STENCIL8 && !to->stencil_read_only)
+        desc.stencil_front.pass_op = desc.stencil_back.pass_op = WETHLORN_STENCIL_REPLACE;
+    targets[0].format = targets[1].format = WETHLORN_RGBA8_UNORM;
     return ENGINE_CALL(&it->engine, "createRenderPipeline",
         wethlorn_create_render_pipeline(&it->engine.device, &desc, NULL, 0, &points, 1, &point, 1, targets, to->colors, &it->engine.reply));
 }
@@ -468,6 +471,7 @@ static void attach_depth(page *it, pass *to, scope *used, uint32_t mip, signatur
     if (!of->depth_read_only) {
         out->depth_load = to->targets[to->targets_count - 1].load;
         out->depth_store = to->targets[to->targets_count - 1].store;
+        out->depth_clear = WETHLORN_FIXED_ONE;
     }
     if (found->kind != STENCIL)
         return;

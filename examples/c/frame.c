@@ -112,7 +112,8 @@ static uint64_t render_pipeline(frame *it, wethlorn_render_desc desc, size_t int
     wethlorn_iface_entry interface = {.stage = WETHLORN_STAGE_FRAGMENT, .holds = sampled(WETHLORN_SAMPLE_FLOAT)};
     wethlorn_vertex_buffer points = {.stride = 16, .step = WETHLORN_STEP_PER_VERTEX};
     wethlorn_vertex_attribute place = {.format = WETHLORN_VERTEX_FLOAT32X3};
-    uint32_t target = WETHLORN_RGBA8_UNORM;
+    wethlorn_target target = WETHLORN_TARGET_INIT;
+    target.format = WETHLORN_RGBA8_UNORM;
     return told(it, "createRenderPipeline", wethlorn_create_render_pipeline(&it->device, &desc, &interface, interfaces,
         &points, buffers, &place, buffers, &target, targets, &it->reply));
 }
@@ -120,8 +121,10 @@ static uint64_t render_pipeline(frame *it, wethlorn_render_desc desc, size_t int
 static void make_pipelines(frame *it) {
     wethlorn_iface_entry sums = {.group = 1, .stage = WETHLORN_STAGE_COMPUTE, .holds = storage()};
     wethlorn_render_desc mips = {.layout = it->mips, .samples = 1};
-    wethlorn_render_desc shadow = {.layout = it->nothing, .samples = 1, .depth_format = WETHLORN_DEPTH32_FLOAT, .depth_write = 1};
-    wethlorn_render_desc scene = {.layout = it->scene, .samples = 4, .depth_format = WETHLORN_DEPTH24_PLUS, .depth_write = 1};
+    wethlorn_render_desc shadow = {.layout = it->nothing, .samples = 1, .depth_format = WETHLORN_DEPTH32_FLOAT};
+    wethlorn_render_desc scene = {.layout = it->scene, .samples = 4, .depth_format = WETHLORN_DEPTH24_PLUS};
+    shadow.depth_write = scene.depth_write = 1;
+    shadow.depth_compare = scene.depth_compare = WETHLORN_COMPARE_LESS;
     it->mip_pipeline = render_pipeline(it, mips, 1, 0, 1);
     it->shadow_pipeline = render_pipeline(it, shadow, 0, 1, 0);
     it->scene_pipeline = render_pipeline(it, scene, 0, 1, 1);
@@ -186,7 +189,7 @@ static void record_mip(frame *it) {
 
 static void record_shadow(frame *it) {
     wethlorn_color none = WETHLORN_COLOR_INIT;
-    wethlorn_depth depth = {.view = it->shadow_view, .depth_load = WETHLORN_CLEAR, .depth_store = WETHLORN_STORE};
+    wethlorn_depth depth = {.view = it->shadow_view, .depth_load = WETHLORN_CLEAR, .depth_store = WETHLORN_STORE, .depth_clear = WETHLORN_FIXED_ONE};
     uint32_t pass = begin(it, none, 0, depth);
     set_pipeline(it, pass, it->shadow_pipeline);
     draw_points(it, pass);
@@ -195,7 +198,7 @@ static void record_shadow(frame *it) {
 
 static void record_scene(frame *it) {
     wethlorn_color color = {.view = it->samples_view, .depth_slice = WETHLORN_NONE, .resolve = it->color_view, .load = WETHLORN_CLEAR, .store = WETHLORN_STORE_DISCARD};
-    wethlorn_depth depth = {.view = it->depth_view, .depth_load = WETHLORN_CLEAR, .depth_store = WETHLORN_STORE_DISCARD};
+    wethlorn_depth depth = {.view = it->depth_view, .depth_load = WETHLORN_CLEAR, .depth_store = WETHLORN_STORE_DISCARD, .depth_clear = WETHLORN_FIXED_ONE};
     uint32_t pass = begin(it, color, 1, depth);
     set_pipeline(it, pass, it->scene_pipeline);
     set_group(it, pass, 0, it->levels_group);

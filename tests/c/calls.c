@@ -14,6 +14,8 @@ WORDS(VIEW_DIMENSIONS, "1d", "2d", "2d-array", "cube", "cube-array", "3d");
 WORDS(ASPECTS, "all", "depth-only", "stencil-only");
 WORDS(FILTERS, "validation", "out-of-memory", "internal");
 WORDS(SAMPLERS, "filtering", "non-filtering", "comparison");
+WORDS(MODES, "nearest", "linear");
+WORDS(COMPARES, "never", "less", "equal", "less-equal", "greater", "not-equal", "greater-equal", "always");
 WORDS(SAMPLES, "float", "unfilterable-float", "depth", "sint", "uint");
 WORDS(ACCESSES, "read-only", "write-only", "read-write");
 WORDS(STAGES, "vertex", "fragment");
@@ -21,6 +23,12 @@ WORDS(STEPS, "vertex", "instance");
 WORDS(ATTRIBUTES, "uint8x2", "uint8x4", "unorm8x4", "uint16x2", "float16x2", "float32", "uint32", "sint32", "float16x4", "float32x2",
     "float32x3", "float32x4");
 WORDS(INDEXES, "uint16", "uint32");
+WORDS(TOPOLOGIES, "point-list", "line-list", "line-strip", "triangle-list", "triangle-strip");
+WORDS(CULLS, "none", "front", "back");
+WORDS(OPERATIONS, "add", "subtract", "reverse-subtract", "min", "max");
+WORDS(FACTORS, "zero", "one", "src", "one-minus-src", "src-alpha", "one-minus-src-alpha", "dst", "one-minus-dst", "dst-alpha",
+    "one-minus-dst-alpha", "src-alpha-saturated", "constant", "one-minus-constant");
+WORDS(CHANGES, "keep", "zero", "replace", "invert", "increment-clamp", "decrement-clamp", "increment-wrap", "decrement-wrap");
 WORDS(LOADS, "load", "clear");
 WORDS(STORES, "store", "discard");
 WORDS(KINDS, "uniform", "storage", "read-only-storage", "sampler", "texture", "storage-texture");
@@ -29,7 +37,7 @@ WORDS(LIMITS, "maxTextureDimension1D", "maxTextureDimension2D", "maxTextureDimen
     "maxSampledTexturesPerShaderStage", "maxSamplersPerShaderStage", "maxStorageBuffersPerShaderStage", "maxStorageTexturesPerShaderStage",
     "maxUniformBuffersPerShaderStage", "maxUniformBufferBindingSize", "maxStorageBufferBindingSize", "minUniformBufferOffsetAlignment",
     "minStorageBufferOffsetAlignment", "maxVertexBuffers", "maxVertexAttributes", "maxVertexBufferArrayStride", "maxBufferSize",
-    "maxColorAttachments", "maxComputeWorkgroupsPerDimension");
+    "maxColorAttachments", "maxComputeWorkgroupsPerDimension", "maxColorAttachmentBytesPerSample");
 
 /* The number of a word, or `otherwise` where there is none. */
 static uint32_t numbered(const json_t *word, const char *const *words, uint32_t otherwise) {
@@ -50,6 +58,12 @@ static uint64_t number(const json_t *call, const char *key, uint64_t otherwise) 
 
 static uint32_t flag(const json_t *call, const char *key) {
     return json_is_true(json_object_get(call, key));
+}
+
+/* Whether a key has the word "none". */
+static int is_none(const json_t *call, const char *key) {
+    const char *word = json_string_value(json_object_get(call, key));
+    return word && !strcmp(word, "none");
 }
 
 /* The item of a list of three numbers, or 0. */
@@ -185,8 +199,23 @@ static void create_view(player *p, const json_t *call) {
     CALL(p, wethlorn_create_view(DEVICE, texture, &desc, OUT));
 }
 
+/* Whether a sampler is described, and not told by its kind alone. */
+static int is_described(const json_t *call) {
+    static const char *const keys[] = {"magFilter", "minFilter", "mipmapFilter", "compare", "lodMinClamp", "lodMaxClamp", "maxAnisotropy",
+        "addressModeU", "addressModeV", "addressModeW"};
+    for (size_t at = 0; at < sizeof keys / sizeof *keys; at++)
+        if (json_object_get(call, keys[at]))
+            return 1;
+    return 0;
+}
+
 static void create_sampler(player *p, const json_t *call) {
-    CALL(p, wethlorn_create_sampler(DEVICE, word(call, "kind", SAMPLERS, WETHLORN_FILTERING), OUT));
+    wethlorn_sampler_desc desc = {number(call, "lodMinClamp", 0), number(call, "lodMaxClamp", WETHLORN_LOD_MAX), word(call, "magFilter", MODES, 0),
+        word(call, "minFilter", MODES, 0), word(call, "mipmapFilter", MODES, 0), word(call, "compare", COMPARES, 0), N32("maxAnisotropy", 1)};
+    if (is_described(call))
+        CALL(p, wethlorn_create_described_sampler(DEVICE, &desc, OUT));
+    else
+        CALL(p, wethlorn_create_sampler(DEVICE, word(call, "kind", SAMPLERS, WETHLORN_FILTERING), OUT));
 }
 
 static void create_bind_group_layout(player *p, const json_t *call) {
@@ -258,17 +287,65 @@ static wethlorn_vertex_attribute *attributes(const json_t *buffers, size_t *coun
     return all;
 }
 
+static wethlorn_blend blend(const json_t *from) {
+    return (wethlorn_blend){word(from, "operation", OPERATIONS, 0), word(from, "srcFactor", FACTORS, 0), word(from, "dstFactor", FACTORS, 0)};
+}
+
+/* The color targets of a pipeline, each of which is null, a format alone, or an object. */
+static const wethlorn_target *targets_of(const json_t *call, size_t *count) {
+    static wethlorn_target targets[ITEMS];
+    const json_t *list = json_object_get(call, "targets");
+    *count = json_array_size(list);
+    for (size_t at = 0; at < *count; at++) {
+        const json_t *one = json_array_get(list, at), *blended = json_object_get(one, "blend");
+        targets[at].format = json_is_object(one) ? word(one, "format", FORMATS, 0) : numbered(one, FORMATS, 0);
+        targets[at].write_mask = (uint32_t)number(one, "writeMask", WETHLORN_COLOR_WRITE_ALL);
+        targets[at].blends = json_is_object(blended);
+        targets[at].color = blend(json_object_get(blended, "color"));
+        targets[at].alpha = blend(json_object_get(blended, "alpha"));
+    }
+    return targets;
+}
+
+static wethlorn_stencil_face face(const json_t *depth, const char *key) {
+    const json_t *from = json_object_get(depth, key);
+    return (wethlorn_stencil_face){word(from, "compare", COMPARES, 0), word(from, "failOp", CHANGES, 0), word(from, "depthFailOp", CHANGES, 0),
+        word(from, "passOp", CHANGES, 0)};
+}
+
+static wethlorn_render_desc render_desc(player *p, const json_t *call) {
+    const json_t *depth = json_object_get(call, "depth"), *primitive = json_object_get(call, "primitive");
+    wethlorn_render_desc desc = {
+        .layout = layout_of(p, call),
+        .samples = N32("samples", 1),
+        .depth_format = word(depth, "format", FORMATS, 0),
+        .depth_write = is_none(depth, "depthWrite") ? (uint32_t)WETHLORN_DEPTH_WRITE_LEFT_OUT : flag(depth, "depthWrite"),
+        .stencil_write = flag(depth, "stencilWrite"),
+        .depth_compare = is_none(depth, "depthCompare") ? 0 : word(depth, "depthCompare", COMPARES, WETHLORN_COMPARE_ALWAYS),
+        .biased = flag(depth, "bias"),
+        .stencil_write_mask = (uint32_t)number(depth, "stencilWriteMask", WETHLORN_ALL_BITS),
+        .stencil_front = face(depth, "stencilFront"),
+        .stencil_back = face(depth, "stencilBack"),
+        .topology = word(primitive, "topology", TOPOLOGIES, 0),
+        .strip_index_format = word(primitive, "stripIndexFormat", INDEXES, 0),
+        .cull_mode = word(primitive, "cullMode", CULLS, 0),
+        .alpha_to_coverage = flag(call, "alphaToCoverage"),
+    };
+    return desc;
+}
+
 static void create_render_pipeline(player *p, const json_t *call) {
     static wethlorn_vertex_buffer buffers[ITEMS];
-    const json_t *list = json_object_get(call, "buffers"), *depth = json_object_get(call, "depth");
+    const json_t *list = json_object_get(call, "buffers");
     size_t ifaces, targets, each, count = json_array_size(list);
-    wethlorn_render_desc desc = {layout_of(p, call), N32("samples", 1), word(depth, "format", FORMATS, 0), flag(depth, "depthWrite"), flag(depth, "stencilWrite")};
+    wethlorn_render_desc desc = render_desc(p, call);
     const wethlorn_iface_entry *iface = interface(call, 0, &ifaces);
-    const uint32_t *target = formats(call, "targets", &targets);
+    const wethlorn_target *target = targets_of(call, &targets);
     wethlorn_vertex_attribute *attribute = attributes(list, &each);
     for (size_t at = 0; at < count; at++) {
-        buffers[at].stride = (uint32_t)number(json_array_get(list, at), "stride", 0);
-        buffers[at].step = word(json_array_get(list, at), "step", STEPS, WETHLORN_STEP_PER_VERTEX);
+        const json_t *one = json_array_get(list, at);
+        buffers[at].stride = (uint32_t)number(one, "stride", 0);
+        buffers[at].step = json_is_null(one) ? 0 : word(one, "step", STEPS, WETHLORN_STEP_PER_VERTEX);
     }
     CALL(p, wethlorn_create_render_pipeline(DEVICE, &desc, iface, ifaces, buffers, count, attribute, each, target, targets, OUT));
     free(attribute);
@@ -459,7 +536,8 @@ static void begin_render_pass(player *p, const json_t *call, const named *on) {
     size_t count = json_array_size(list);
     uint64_t queries = object(p, call, "queries");
     wethlorn_depth depth = {object(p, given, "view"), word(given, "depthLoad", LOADS, 0), word(given, "depthStore", STORES, 0), flag(given, "depthReadOnly"),
-        word(given, "stencilLoad", LOADS, 0), word(given, "stencilStore", STORES, 0), flag(given, "stencilReadOnly")};
+        word(given, "stencilLoad", LOADS, 0), word(given, "stencilStore", STORES, 0), flag(given, "stencilReadOnly"),
+        is_none(given, "depthClearValue") ? WETHLORN_NONE : number(given, "depthClearValue", 0)};
     for (size_t at = 0; at < count; at++) {
         const json_t *color = json_array_get(list, at);
         colors[at].view = object(p, color, "view");

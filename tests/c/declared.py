@@ -28,9 +28,9 @@ def of_header(text):
 
 def begins_of_header(text):
     """The fields of each descriptor as its WETHLORN_.._INIT has them, in their order: numbers, names, or what another one begins with."""
-    text = re.sub(r"/\*.*?\*/", "", text, flags=re.S)
+    text = re.sub(r" \\\n +", " ", re.sub(r"/\*.*?\*/", "", text, flags=re.S))
     found = {}
-    for name, body in re.findall(r"#define WETHLORN_(\w+)_INIT(?: \\\n   )? \{(.*)\}", text):
+    for name, body in re.findall(r"#define WETHLORN_(\w+)_INIT \{(.*)\}", text):
         found[name_of(name.lower())] = [re.sub(r"^WETHLORN_", "", each) for each in body.split(", ")]
     return found
 

@@ -17,6 +17,7 @@ typedef struct lists {
     const wethlorn_iface_entry *iface;
     const wethlorn_vertex_buffer *buffers;
     const wethlorn_vertex_attribute *attributes;
+    const wethlorn_target *targets;
     const wethlorn_color *colors;
     const uint64_t *objects;
     const uint32_t *numbers;
@@ -97,8 +98,9 @@ static void play_empty(played *it, const lists *of) {
     uint64_t group = given(it, wethlorn_create_bind_group(device, entries, of->group, 0, next(it)), "createBindGroup");
     given(it, wethlorn_create_compute_pipeline(device, pipeline.layout, of->iface, 0, next(it)), "createComputePipeline");
     pipeline.depth_format = bundle.depth_format = WETHLORN_DEPTH32_FLOAT;
+    pipeline.depth_write = 0;
     given(it,
-        wethlorn_create_render_pipeline(device, &pipeline, of->iface, 0, of->buffers, 0, of->attributes, 0, of->numbers, 0, next(it)),
+        wethlorn_create_render_pipeline(device, &pipeline, of->iface, 0, of->buffers, 0, of->attributes, 0, of->targets, 0, next(it)),
         "createRenderPipeline");
     given(it, wethlorn_create_bundle_encoder(device, &bundle, of->numbers, 0, &encoder, next(it)), "createRenderBundleEncoder");
     check(wethlorn_close_encoder(&encoder) == WETHLORN_OK, "close of a bundle encoder");
@@ -299,11 +301,12 @@ static void try_null(void) {
     static const wethlorn_iface_entry iface = WETHLORN_IFACE_ENTRY_INIT;
     static const wethlorn_vertex_buffer buffers = WETHLORN_VERTEX_BUFFER_INIT;
     static const wethlorn_vertex_attribute attributes = WETHLORN_VERTEX_ATTRIBUTE_INIT;
+    static const wethlorn_target targets = WETHLORN_TARGET_INIT;
     static const wethlorn_color colors = WETHLORN_COLOR_INIT;
     static const uint64_t objects = 0;
     static const uint32_t numbers = 0;
-    static const lists some = {&limits, &layout, &group, &iface, &buffers, &attributes, &colors, &objects, &numbers};
-    static const lists none = {NULL, NULL, NULL, NULL, NULL, NULL, NULL, NULL, NULL};
+    static const lists some = {&limits, &layout, &group, &iface, &buffers, &attributes, &targets, &colors, &objects, &numbers};
+    static const lists none = {NULL, NULL, NULL, NULL, NULL, NULL, NULL, NULL, NULL, NULL};
     static played one, other;
     wethlorn_left left, also;
     play_empty(&one, &some);

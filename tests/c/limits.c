@@ -3,7 +3,7 @@
 #include <wethlorn.h>
 #include <stdio.h>
 
-enum { UNTOUCHED = 0xA5, NAMES = 23 };
+enum { UNTOUCHED = 0xA5, NAMES = 24 };
 
 /* A limit with its number, its default, and the best value of it. */
 typedef struct row {
@@ -37,6 +37,7 @@ static const row rows[NAMES] = {
     ROW(MAX_BUFFER_SIZE),
     ROW(MAX_COLOR_ATTACHMENTS),
     ROW(MAX_COMPUTE_WORKGROUPS_PER_DIMENSION),
+    ROW(MAX_COLOR_ATTACHMENT_BYTES_PER_SAMPLE),
 };
 
 static int is_wrong;

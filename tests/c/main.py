@@ -54,7 +54,11 @@ FLAGS = [
     ("wethlorn_texture_usage", "WETHLORN_BUFFER_USAGE_COPY_DST", False),
     ("wethlorn_map_mode", "WETHLORN_MAP_MODE_READ", True),
     ("wethlorn_map_mode", "WETHLORN_BUFFER_USAGE_MAP_READ", False),
+    ("wethlorn_color_write", "WETHLORN_COLOR_WRITE_RED | WETHLORN_COLOR_WRITE_ALPHA", True),
+    ("wethlorn_color_write", "WETHLORN_TEXTURE_USAGE_COPY_SRC", False),
     ("wethlorn_color", "WETHLORN_COLOR_INIT", True),
+    ("wethlorn_render_desc", "WETHLORN_RENDER_DESC_INIT", True),
+    ("wethlorn_target", "WETHLORN_TARGET_INIT", True),
     ("wethlorn_texture_write", "WETHLORN_TEXTURE_WRITE_INIT", True),
     ("wethlorn_iface_entry", "WETHLORN_IFACE_ENTRY_INIT", True),
 ]
@@ -175,7 +179,8 @@ def test_engine(program):
 
 
 def test_edges(program):
-    """Null pointers for lists of no elements, the version, and what a close tells; or limits; or what passes are set to."""
+    """Null pointers for lists of no elements, the version, and what a close tells; or limits; or what passes are set to; or what pipelines
+    and samplers fix."""
     status, said = run([program])
     check(status == 0 and not said, f"{program.name}: status {status}\n{said.decode()}")
 
@@ -349,6 +354,8 @@ def test_programs(words):
         test_edges(build(folder, "limits-with-asan", [HERE / "limits.c"], linked, *asan))
         test_edges(build(folder, "passes", [HERE / "passes.c"], linked))
         test_edges(build(folder, "passes-with-asan", [HERE / "passes.c"], linked, *asan))
+        test_edges(build(folder, "fixed", [HERE / "fixed.c"], linked))
+        test_edges(build(folder, "fixed-with-asan", [HERE / "fixed.c"], linked, *asan))
         if shutil.which("c++"):
             test_holder(folder, linked)
         if has_library():

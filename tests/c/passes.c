@@ -65,6 +65,7 @@ static uint64_t depth_pipeline(wethlorn_device *device) {
     wethlorn_reply reply;
     desc.layout = given(wethlorn_create_pipeline_layout(device, &null, 1, &reply), &reply, "createPipelineLayout");
     desc.depth_format = WETHLORN_DEPTH32_FLOAT;
+    desc.depth_write = 0;
     uint32_t status = wethlorn_create_render_pipeline(device, &desc, NULL, 0, NULL, 0, NULL, 0, NULL, 0, &reply);
     return given(status, &reply, "createRenderPipeline");
 }
@@ -77,6 +78,7 @@ static begun begin(uint64_t max_draws) {
     depth.view = depth_view(&it.device);
     depth.depth_load = WETHLORN_CLEAR;
     depth.depth_store = WETHLORN_STORE;
+    depth.depth_clear = 0;
     it.pipeline = depth_pipeline(&it.device);
     given(wethlorn_create_encoder(&it.device, &it.encoder, &reply), &reply, "createCommandEncoder");
     kept(wethlorn_begin_render_pass(&it.device, &it.encoder, NULL, 0, &depth, WETHLORN_NONE, max_draws, &it.pass), "beginRenderPass");

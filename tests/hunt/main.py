@@ -207,6 +207,30 @@ def test_translation():
 
 # A pass to which nothing is attached.
 NOTHING = {"colors": [], "depth": None, "queries": None, "as": "p"}
+# What describes a sampler, and a render pipeline, with all keys at what they have where they are left out.
+SAMPLER = {
+    **dict.fromkeys(translation.FILTERS, "nearest"), "compare": None, "lodMinClamp": 0, "lodMaxClamp": 2097152, "maxAnisotropy": 1,
+    **dict.fromkeys(translation.ADDRESSES, "clamp-to-edge"), "as": "s",
+}
+PIPELINE = {
+    "layout": "y", "iface": [], "buffers": [], "targets": [], "depth": None, "samples": 1, "mask": 2**32 - 1, "alphaToCoverage": False,
+    "primitive": {"topology": "triangle-list", "stripIndexFormat": None, "frontFace": "ccw", "cullMode": "none"}, "as": "r",
+}
+ADDED = {"operation": "add", "srcFactor": "one", "dstFactor": "zero"}
+KEPT = {"compare": "always", "failOp": "keep", "depthFailOp": "keep", "passOp": "keep"}
+DEPTH = {
+    "format": "stencil8", "depthWrite": False, "depthCompare": "always", "stencilFront": KEPT, "stencilBack": KEPT,
+    "stencilReadMask": 2**32 - 1, "stencilWriteMask": 2**32 - 1, "bias": False,
+}
+LEFT_OUT = {"depthWrite": "none", "depthCompare": "none"}
+FACES = {"stencilBack": {**KEPT, "failOp": "zero"}, "stencilWriteMask": 1}
+DRAWN = "{{ layout: y, vertex: {{ module: module }}, depthStencil: {{ format: 'stencil8', {} }} }}"
+CLEARED = {
+    "view": "v", "depthLoad": "clear", "depthStore": "store", "depthReadOnly": False, "stencilLoad": None, "stencilStore": None,
+    "stencilReadOnly": False, "stencilClearValue": 0,
+}
+BEGUN = {**NOTHING, "maxDrawCount": None}
+PASSED = "{{ colorAttachments: [], depthStencilAttachment: {{ view: v, depthLoadOp: 'clear', depthStoreOp: 'store', {} }} }}"
 # What a call is handed in a page: its word, its keys, and the arguments in JavaScript.
 HANDED = [
     (
@@ -230,6 +254,43 @@ HANDED = [
     ("createPipelineLayout", {"layouts": [None, "l"], "as": "y"}, "{ bindGroupLayouts: [null, l] }"),
     ("beginRenderPass", {**NOTHING, "maxDrawCount": 0}, "{ colorAttachments: [], maxDrawCount: 0 }"),
     ("beginRenderPass", {**NOTHING, "maxDrawCount": None}, "{ colorAttachments: [] }"),
+    ("createSampler", {"kind": "filtering", "as": "s"}, "{ magFilter: 'linear' }"),
+    ("createSampler", {**SAMPLER}, "{}"),
+    (
+        "createSampler",
+        {**SAMPLER, "minFilter": "linear", "compare": "never", "lodMinClamp": 1, "lodMaxClamp": 65536, "addressModeV": "repeat"},
+        "{ minFilter: 'linear', compare: 'never', addressModeV: 'repeat', lodMinClamp: 1.52587890625e-05, lodMaxClamp: 1 }",
+    ),
+    ("createSampler", {**SAMPLER, "maxAnisotropy": 0}, "{ maxAnisotropy: 0 }"),
+    ("createRenderPipeline", PIPELINE, "{ layout: y, vertex: { module: module } }"),
+    (
+        "createRenderPipeline",
+        {
+            **PIPELINE, "buffers": [None, {"stride": 0, "step": "vertex", "attributes": []}],
+            "targets": [
+                None, {"format": "r8unorm", "blend": None, "writeMask": 15},
+                {"format": "r8unorm", "blend": {"color": {**ADDED, "operation": "max"}, "alpha": ADDED}, "writeMask": 0},
+            ],
+            "primitive": {"topology": "line-strip", "stripIndexFormat": "uint16", "frontFace": "cw", "cullMode": "back"},
+            "samples": 4, "mask": 0, "alphaToCoverage": True,
+        },
+        "{ layout: y, vertex: { module: module, buffers: [null, { arrayStride: 0, stepMode: 'vertex', attributes: [] }] }, fragment: "
+        "{ module: module, targets: [null, { format: 'r8unorm' }, { format: 'r8unorm', blend: { color: { operation: 'max' }, alpha: {} }, "
+        "writeMask: 0 }] }, primitive: { topology: 'line-strip', stripIndexFormat: 'uint16', frontFace: 'cw', cullMode: 'back' }, "
+        "multisample: { count: 4, mask: 0, alphaToCoverageEnabled: true } }",
+    ),
+    ("createRenderPipeline", {**PIPELINE, "depth": {**DEPTH, "stencilWrite": True}}, DRAWN.format(
+        "depthWriteEnabled: false, depthCompare: 'always', stencilFront: { passOp: 'replace' }, stencilBack: { passOp: 'replace' }"
+    )),
+    ("createRenderPipeline", {**PIPELINE, "depth": {**DEPTH, **LEFT_OUT, "bias": True, **FACES}}, DRAWN.format(
+        "stencilBack: { failOp: 'zero' }, stencilWriteMask: 1, depthBias: 1"
+    )),
+    ("beginRenderPass", {**BEGUN, "depth": {**CLEARED, "depthClearValue": None}}, PASSED.format("depthClearValue: 1")),
+    ("beginRenderPass", {**BEGUN, "depth": {**CLEARED, "depthClearValue": 32768}}, PASSED.format("depthClearValue: 0.5")),
+    (
+        "beginRenderPass", {**BEGUN, "depth": {**CLEARED, "depthClearValue": "none", "stencilClearValue": 7}},
+        PASSED.format("stencilClearValue: 7"),
+    ),
 ]
 # Fixed numbers, each with that of the float that a page makes of it.
 FLOATS = [
@@ -247,6 +308,11 @@ def test_states():
         call = {"do": "setViewport", "on": "p", "width": number, "height": 1, "label": "x"}
         found = flat.with_floats(call)
         check(found == {**call, "width": told} and call["width"] == number, f"the fixed number {number} is {found['width']} in a page")
+        call = {"do": "beginRenderPass", "on": "e", "colors": [], "depth": {"view": "v", "depthClearValue": number}, "as": "p"}
+        found = flat.with_floats(call)["depth"]["depthClearValue"]
+        check(found == told and call["depth"]["depthClearValue"] == number, f"the fixed number {number} of a depth is {found} in a page")
+    left_out = {"do": "beginRenderPass", "on": "e", "colors": [], "depth": {"view": "v", "depthClearValue": "none"}, "as": "p"}
+    check(flat.with_floats(left_out) == left_out, "a depth that is left out is another in a page")
 
 
 class Lying:

@@ -3,7 +3,8 @@ calls just at what the device has then, and just past it."""
 
 import json
 
-from model.limits import ALIGNMENTS, BEST, DEFAULTS, given, is_alignment, is_better
+from model.formats import SAMPLE_BYTES, bytes_per_sample
+from model.limits import ALIGNMENTS, BEST, DEFAULTS, LEAST, given, is_alignment, is_better
 
 COMPUTE, UNIFORM, STORAGE = 4, 64, 128
 
@@ -105,6 +106,22 @@ def colors(count, name):
     return pipeline(name, targets=["r8unorm"] * count) + [{"do": "createBundleEncoder", "as": f"{name}e", "colors": ["r8unorm"] * count}]
 
 
+def bytes_of_sample(count, name):
+    """Targets and colors that take so many bytes together."""
+    formats = []
+    while bytes_per_sample(formats) < count:
+        room = count - bytes_per_sample(formats)
+        formats.append(max((format for format, (length, _) in SAMPLE_BYTES.items() if length <= room), key=lambda one: SAMPLE_BYTES[one]))
+    calls = pipeline(name, targets=formats) + [{"do": "createBundleEncoder", "as": f"{name}e", "colors": formats}]
+    calls += [{"do": "createEncoder", "as": f"{name}c"}]
+    for number, format in enumerate(formats):
+        calls += [{"do": "createTexture", "as": f"{name}t{number}", "size": [1, 1, 1], "usage": 16, "format": format}]
+        calls += [{"do": "createView", "as": f"{name}v{number}", "texture": f"{name}t{number}"}]
+    colors = [{"view": f"{name}v{number}", "load": "clear", "store": "store"} for number in range(len(formats))]
+    calls += [{"do": "beginRenderPass", "on": f"{name}c", "as": f"{name}p", "colors": colors}, {"do": "end", "on": f"{name}p"}]
+    return calls + [{"do": "finish", "on": f"{name}c", "as": f"{name}f"}]
+
+
 def workgroups(count, name):
     calls = pipeline(f"{name}r")[:1] + [
         {"do": "createComputePipeline", "as": f"{name}k", "layout": f"{name}rl"},
@@ -163,6 +180,7 @@ CALLS = {
     "maxBindGroups": groups,
     "maxVertexBuffers": vertex_buffers,
     "maxColorAttachments": colors,
+    "maxColorAttachmentBytesPerSample": bytes_of_sample,
     "maxComputeWorkgroupsPerDimension": workgroups,
     "minUniformBufferOffsetAlignment": alignment("uniform", UNIFORM),
     "minStorageBufferOffsetAlignment": alignment("storage", STORAGE),
@@ -171,7 +189,7 @@ CALLS = {
 
 def values(name):
     """What is asked for of a limit, each by a word."""
-    default, best = DEFAULTS[name], BEST[name]
+    default, best = LEAST[name], BEST[name]
     if name in ALIGNMENTS:
         return {
             "the-best": best,
@@ -203,7 +221,7 @@ def script(name, value):
     asked = {"maxBufferSize": BEST["maxBufferSize"]} if name == "maxStorageBufferBindingSize" else {}
     asked[name] = value
     is_good = is_alignment(value) and value >= BEST[name] if name in ALIGNMENTS else not is_better(name, value, BEST[name])
-    most = given(asked)[name] if is_good else DEFAULTS[name]
+    most = given(asked)[name] if is_good else LEAST[name]
     step = -most // 2 if name in ALIGNMENTS else 1
     calls = CALLS[name](most, "at") + CALLS[name](most + step, "past")
     made, calls_once = set(), []

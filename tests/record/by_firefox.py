@@ -33,7 +33,7 @@ def test_fake(folder, check, wgsim):
     saved.write_text(json.dumps(recording(PARTS)), encoding="utf-8")
     told = wgsim("record", "--browser", FAKE, "--out", out, page)[0]
     for words in (
-        "resize.json: 43 calls; 2 of them made an error", "the page asked for http://192.0.2.1/library.js",
+        "resize.json: 42 calls; 2 of them made an error", "the page asked for http://192.0.2.1/library.js",
         "the page failed: Error: it failed",
     ):
         check(words in told, f"record by a Firefox does not say `{words}`: {told}")

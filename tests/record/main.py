@@ -426,11 +426,11 @@ def test_judged():
     text = wgsim("judge", KEPT)[0]
     for words in (
         "textures.json: agrees (", "late.json: differs as known (", 'docs/coverage.md, "When rule 14 is told"', "outside.json: outside (",
-        "(it used the levels of detail of a sampler)",
+        "(it used view formats of a texture)",
         "createComputePipeline is not in the script: the number A + 1 of a group or a binding, at 2:20 of the text of the shader",
         "left out, since no script says it: ", "the browser refuses a shader: ", "outside before call ",
         "no script has it: an object of another device", "agrees at call ",
-        "outside at call 33, outside.html:37:34 in frame, the first of 3 times: finish: ",
+        "outside at call 28, outside.html:37:34 in frame, the first of 3 times: finish: ",
         "        @compute @workgroup_size(1) fn main() { let a: i32 = 1.5; }\n",
     ):
         check(words in text, f"judge does not say `{words}`")
@@ -472,13 +472,13 @@ def test_browser_errors():
         "    in the page: outside.html:18:23\n    the browser (validation): Error while parsing WGSL: :1:54 error: cannot convert value",
         "no rule of this core is broken: it does not look into shaders. ",
         f"BROWSER'S ERROR at call 7: {KEPT}/outside.json:9:1\n",
-        "    the browser (validation, uncaptured): LOD min clamp (2.000000) is larger than the max clamp (1.000000).\n",
+        "    the browser (validation, uncaptured): The texture view format (TextureFormat::R8Unorm) is not texture view format compatible",
         (
-            "    no rule of this core is broken: it used the levels of detail of a sampler, and that may be why. Look at that there: the"
+            "    no rule of this core is broken: it used view formats of a texture, and that may be why. Look at that there: the"
             " browser's words say what it wants.\n"
         ),
         "follows from an earlier error: call 9: ",
-        "follows from an earlier error: call 34: ",
+        "follows from an earlier error: call 29: ",
     )
     for each in words:
         check(each in text, f"explain of outside does not say `{each}`")
@@ -492,7 +492,7 @@ def test_browser_errors():
     again = "this is the first of 3 times at this place of the page"
     heads = re.findall(r"^(?:FAULT|BROWSER'S ERROR) .*", text, re.M)
     check(
-        text.count(again) == 2 and f"{again}; it comes again at entries 34, 48\n" in text and len(heads) == 4,
+        text.count(again) == 2 and f"{again}; it comes again at entries 33, 47\n" in text and len(heads) == 4,
         f"explain of outside does not tell once what comes in each frame: {heads}",
     )
 
@@ -533,8 +533,8 @@ PICTURED = {
     "outside": (
         "The browser made 9 errors where no rule of this core is broken.",
         "Browser's error at outside.html:18:23: createShaderModule",
-        "this is the first of 3 times at this place of the page; it comes again at entries 34, 48",
-        "Browser's error at outside.html:37:34 in frame (line 35 of the script): finish</b> <small>the first of 3 times</small>",
+        "this is the first of 3 times at this place of the page; it comes again at entries 33, 47",
+        "Browser's error at outside.html:37:34 in frame (line 30 of the script): finish</b> <small>the first of 3 times</small>",
         "outside.html:19:8 (line 11 of the script): createComputePipeline only follows: the browser",
     ),
 }
@@ -560,7 +560,13 @@ def test_pictures():
 # What a browser may say at a call of a recording that used something that no script says, and what `judge` then tells: the call, what was
 # left out, the browser's words, the verdict and the reason.
 EXCUSED = [
-    ("createRenderPipeline", ["depthStencil.depthCompare", "target.blend"], "Blend factor is not allowed.", "outside", "it used blending"),
+    (
+        "createRenderPipeline",
+        ["setImmediates", "primitive.unclippedDepth"],
+        "The depth clip control is not allowed.",
+        "outside",
+        "it used depth that is not clipped",
+    ),
     (
         "createRenderPipeline",
         ["setImmediates", "shader"],
@@ -568,7 +574,7 @@ EXCUSED = [
         "outside",
         "it used a shader that the browser refuses",
     ),
-    ("createRenderPipeline", ["depthStencil.depthCompare"], "Color format of target 0 is wrong.", "differs", None),
+    ("createRenderPipeline", ["primitive.unclippedDepth"], "Color format of target 0 is wrong.", "differs", None),
     ("createRenderPipeline", ["setImmediates"], "The immediate data size (80) exceeds the maximum (64).", "differs", None),
     (
         "createRenderPipeline",

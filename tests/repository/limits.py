@@ -10,18 +10,21 @@ VALUES, NAMES = "crates/wg_limits/specs/Limits.antt", "crates/wg_limits/specs/Na
 def record(text, head):
     """The fields of the record that a definition is."""
     body = text.partition(head)[2].partition("\n}\n")[0]
-    return {name: int(value) for name, value in re.findall(r"^  (\w+) = (\d+);$", body, re.M)}
+    return {name: int(value) for name, value in re.findall(r"^  (\w+) = (?:Some )?(\d+);$", body, re.M)}
 
 
 def limits_of(top):
-    """Each limit in the order of its number: how it is spelled, its field, its default and its best value."""
+    """Each limit in the order of its number: how it is spelled, its field, its default or what is told where it has none, its best value, and
+    its default or None."""
     values, names = ((top / path).read_text(encoding="utf-8") for path in (VALUES, NAMES))
     by_default = record(values, "default_limits = record {")
     best = {**by_default, **record(values, "best_limits = record default_limits {")}
-    fields = dict(re.findall(r"^limit_of (\w+) limits = limits\.(\w+)$", values, re.M))
+    rows = re.findall(r"^limit_of (\w+) limits = (?:unwrap_or )?limits\.(\w+)(?: (\d+))?$", values, re.M)
+    told = {**by_default, **{field: int(value) for _, field, value in rows if value}}
+    fields = {name: field for name, field, _ in rows}
     texts = dict(re.findall(r'^limit_text (\w+) = codes "(\w+)"$', names, re.M))
     order = re.findall(r"\w+", names.partition("\nlimit_names =")[2].partition("[]")[0])
-    return [(texts[name], fields[name], by_default[fields[name]], best[fields[name]]) for name in order]
+    return [(texts[name], fields[name], told[fields[name]], best[fields[name]], by_default.get(fields[name])) for name in order]
 
 
 def defined(text, pattern):
@@ -34,9 +37,9 @@ def in_header(top, limits):
     text = (top / HEADER).read_text(encoding="utf-8")
     numbers = defined(text.partition("/* Limits that")[2].partition("};")[0], r"WETHLORN_(\w+) = (\d+)")
     for found, wanted, what in (
-        (numbers, {field.upper(): place + 1 for place, (_, field, _, _) in enumerate(limits)}, "number"),
-        (defined(text, r"WETHLORN_DEFAULT_(\w+) UINT64_C\((\d+)\)"), {field.upper(): value for _, field, value, _ in limits}, "default"),
-        (defined(text, r"WETHLORN_BEST_(\w+) UINT64_C\((\d+)\)"), {field.upper(): value for _, field, _, value in limits}, "best value"),
+        (numbers, {field.upper(): place + 1 for place, (_, field, *_) in enumerate(limits)}, "number"),
+        (defined(text, r"WETHLORN_DEFAULT_(\w+) UINT64_C\((\d+)\)"), {field.upper(): value for _, field, value, *_ in limits}, "default"),
+        (defined(text, r"WETHLORN_BEST_(\w+) UINT64_C\((\d+)\)"), {field.upper(): value for _, field, _, value, _ in limits}, "best value"),
     ):
         for name in sorted({*found, *wanted}):
             if found.get(name) != wanted.get(name):
@@ -44,10 +47,10 @@ def in_header(top, limits):
 
 
 def in_table(top, limits):
-    """Where docs/limits.json has another default or best value, or no such limit."""
+    """Where docs/limits.json has another default or best value, or another least one of a limit without a default, or no such limit."""
     rows = json.loads((top / TABLE).read_text(encoding="utf-8"))["limits"]
-    found = {row["name"]: (row["default"], row["best"]) for row in rows}
-    wanted = {name: (by_default, best) for name, _, by_default, best in limits}
+    found = {row["name"]: (row["default"], row["best"], row.get("least")) for row in rows}
+    wanted = {name: (own, best, told if own is None else None) for name, _, told, best, own in limits}
     for name in sorted({*found, *wanted}):
         if found.get(name) != wanted.get(name):
             yield f"{TABLE}: {name} has {found.get(name)}, and {wanted.get(name)} in crates/wg_limits"

@@ -1,12 +1,12 @@
 """Checks of the repository that the gate does not make: the examples have their reports by the program that the gate
-built, the documents name what exists, must-fail edits can be applied, crates import what they use and no more, and what is
-written in Python is in order.
+built, the documents name what exists, must-fail edits can be applied, crates import and define what they use and no more, and
+what is written in Python is in order.
 
     tests/repository/run [--documents]    all checks, or with --documents those that need no program
     tests/repository/run --imports        imports of crates that nothing uses, and nothing else
 
 What it asks of the documents alone is in documents.py and pages.py, of the map in map_of_calls.py, of rule numbers in rule_numbers.py, of
-limits in limits.py, of Python in python_code.py, and of imports in imports.py.
+limits in limits.py, of Python in python_code.py, of imports in imports.py, and of definitions and lemmas in unused_names.py.
 
 Prints a line for each finding, and fails if there is one. A notice, as of edits that were not tried since their crate changed, is none.
 """
@@ -24,6 +24,7 @@ import map_of_calls
 import pages
 import python_code
 import rule_numbers
+import unused_names
 
 from edits import tried
 from edits.tried import crates, edits_of
@@ -179,7 +180,7 @@ def main():
         check()
     findings.extend(documents.findings_of(TOP, crates()) + pages.findings_of(TOP, crates()) + map_of_calls.findings_of(TOP))
     findings.extend(rule_numbers.findings_of(TOP) + limits.findings_of(TOP) + python_code.findings_of(TOP))
-    findings.extend(imports.unused(TOP, crates()))
+    findings.extend([*imports.unused(TOP, crates()), *unused_names.unused(TOP, crates())])
     return told(findings)
 
 

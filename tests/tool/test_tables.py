@@ -40,7 +40,7 @@ def test_calls():
         known = calls.keys_of(word)
         own = [(name, "=" if key.may_be_left_out else "") for name, key in (known or {}).items()]
         check(own == keys, f"tools/wgsim/reading/calls.json: {word} has not the keys of docs/script.md: {keys}")
-    titles = ("Bindings", "Render pipelines", "Render passes")
+    titles = ("Bindings", "Render pipelines", "Render passes", "Samplers")
     check_objects(*[text.partition(f"\n### {title}\n")[2].split("\n### ")[0] for title in titles])
     said = re.search(
         r"`on` names an encoder; a bundle encoder in (.*?); a pass in (.*?); and an encoder or a pass in (.*?)\. The pass has to be a"
@@ -77,8 +77,8 @@ def test_calls():
 
 
 def check_objects(*parts):
-    """The same of the objects in calls, and of the words whose keys they have: in the parts of docs/script.md on bindings, render pipelines
-    and render passes."""
+    """The same of the objects in calls, and of the words whose keys they have: in the parts of docs/script.md on bindings, render
+    pipelines, render passes and samplers."""
     def has(keys, written, what):
         own = [(name, "=" if key.may_be_left_out else "") for name, key in keys.items()]
         check(
@@ -129,6 +129,15 @@ def check_objects(*parts):
             "attribute format": "`format` of an attribute",
             "load": "`load`, `depthLoad`, `stencilLoad`",
             "store": "`store`, `depthStore`, `stencilStore`",
+            "sampler filter": "`magFilter`, `minFilter`, `mipmapFilter`",
+            "comparison": "`compare`",
+            "address mode": "`addressModeU`, `addressModeV`, `addressModeW`",
+            "blend operation": "`operation`",
+            "blend factor": "`srcFactor`, `dstFactor`",
+            "stencil operation": "`failOp`, `depthFailOp`, `passOp`",
+            "topology": "`topology`",
+            "front face": "`frontFace`",
+            "cull mode": "`cullMode`",
         }
     )
     for word, row in holders.items():
@@ -146,8 +155,12 @@ def check_objects(*parts):
 def test_limits():
     """The table of limits in docs/script.md is that of docs/limits.json, and tells the rules that docs/rules.json has of each."""
     text = (TOP / "docs/script.md").read_text(encoding="utf-8").split("\n## Limits of the device\n")[1].split("\n## ")[0]
-    rows = re.findall(r"^\| (`.*?) \| (\d+) \| (\d+) \| (.*?) \|$", text, re.M)
-    shown = {name: (int(default), int(best)) for names, default, best, _ in rows for name in re.findall(r"`(\w+)`", names)}
+    rows = re.findall(r"^\| (`.*?) \| (\d+|none) \| (\d+) \| (.*?) \|$", text, re.M)
+    shown = {
+        name: (None if default == "none" else int(default), int(best))
+        for names, default, best, _ in rows
+        for name in re.findall(r"`(\w+)`", names)
+    }
     check(
         shown == {name: (limit.default, limit.best) for name, limit in limits.TABLE.items()},
         f"docs/script.md does not have the limits of docs/limits.json: {shown}",

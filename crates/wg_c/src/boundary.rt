@@ -15,7 +15,7 @@ use crate::statuses::{BAD_VALUE, CLOSED, IS_OPEN, LATE, NO_MEMORY, NO_OBJECT, NO
 use std::alloc::Global;
 use std::mem;
 use wg_desk::DeskError;
-use wg_encoder::{Noted, Recorder};
+use wg_encoder::{Noted, Recorder, no_limits};
 use wg_told::{ToldReply, on_of};
 use wg_types::NoMemory;
 use wg_types::commands::{CommandOf, On};
@@ -110,7 +110,8 @@ impl Inner {
         requires { encoder.old.inside ≡ None }
         ensures { MakesOpen (Some request.now) out.old out.new result encoder.new.inside self.old self.new }
     {
-        let Ok(mut room) = Box::new(alloc, self.blank(alloc)) else {
+        // A recorder of no encoder stands where that of the new one will be.
+        let Ok(mut room) = Box::new(alloc, Recorder::new(alloc, 0, &no_limits())) else {
             return NO_MEMORY;
         };
         match self.ask(request) {

@@ -10,7 +10,7 @@ use crate::sealed::Device;
 use std::alloc::Global;
 use wg_told::flats::{
     FlatAttribute, FlatBuffer, FlatGroupEntry, FlatIfaceEntry, FlatLayoutEntry, FlatRender,
-    FlatTexture, FlatVertexBuffer, FlatView,
+    FlatSampler, FlatTarget, FlatTexture, FlatVertexBuffer, FlatView,
 };
 use wg_told::{ToldReply, requests};
 use wg_types::handles::QueriesInfo;
@@ -56,7 +56,7 @@ pub extern "C" fn wethlorn_create_view(
     ask(device, alloc, Ok(requests::create_view(texture, desc)), out)
 }
 
-/// Makes a sampler.
+/// Makes a sampler of a kind.
 #[unsafe(no_mangle)]
 pub extern "C" fn wethlorn_create_sampler(
     alloc: Global,
@@ -67,6 +67,24 @@ pub extern "C" fn wethlorn_create_sampler(
     ensures { Asks (asked.create_sampler kind) device.old.inside device.new.inside out.old out.new result }
 {
     ask(device, alloc, Ok(requests::create_sampler(kind)), out)
+}
+
+/// Makes a sampler by what describes it.
+#[unsafe(no_mangle)]
+pub extern "C" fn wethlorn_create_described_sampler(
+    alloc: Global,
+    device: &mut Device,
+    desc: &FlatSampler,
+    out: &mut ToldReply,
+) -> u32
+    ensures { Asks (asked.create_described_sampler desc.now) device.old.inside device.new.inside out.old out.new result }
+{
+    ask(
+        device,
+        alloc,
+        Ok(requests::create_described_sampler(desc)),
+        out,
+    )
 }
 
 /// Makes a bind group layout.
@@ -152,7 +170,7 @@ pub extern "C" fn wethlorn_create_render_pipeline(
     iface: &[FlatIfaceEntry],
     buffers: &[FlatVertexBuffer],
     attributes: &[FlatAttribute],
-    targets: &[u32],
+    targets: &[FlatTarget],
     out: &mut ToldReply,
 ) -> u32
     ensures { Asks (asked.create_render_pipeline desc.now iface.now buffers.now attributes.now targets.now) device.old.inside device.new.inside out.old out.new result }

@@ -17,7 +17,7 @@ use crate::waiting::Waiting;
 use std::alloc::Global;
 use std::marker::Model;
 use wg_desk::{Desk, DeskError};
-use wg_encoder::{Noted, Recorder, command_limits};
+use wg_encoder::{Noted, Recorder};
 use wg_told::{
     ToldAccess, ToldCounts, ToldItem, ToldReply, ToldSettlement, ToldUse, access_told, item_counts,
     item_told, limit_at, reply_told, settlement_told, tell_items, use_told,
@@ -113,11 +113,6 @@ impl Inner {
         ensures { result ≡ limit_at self.now.desk.setup.limits name }
     {
         limit_at(&self.limits, name)
-    }
-
-    /// A recorder of no encoder, which stands where one will be put.
-    pub fn blank(&self, alloc: Global) -> Recorder {
-        Recorder::new(alloc, 0, &command_limits(&self.limits))
     }
 
     /// Makes a call, with the recorder of what it makes. What it adds to the trace and what it settles waits to be told.

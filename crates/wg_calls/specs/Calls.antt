@@ -11,6 +11,7 @@ use Rattle.wg_types.specs.declared.textures.TextureInfo.{TextureInfo}
 use Rattle.wg_types.specs.declared.textures.ViewAsked.{ViewAsked}
 use Rattle.wg_types.specs.declared.textures.ViewDesc.{ViewDesc}
 use Rattle.wg_types.specs.Bindings.{map_entry}
+use Rattle.wg_types.specs.Samplers.{sampler_kind}
 use Rattle.wg_trace.specs.declared.replies.Answer.{Answer}
 use Rattle.wg_trace.specs.declared.replies.Answer.TheVariants.{Made, Queued, Promised, Plain, BadCompletion}
 use Rattle.wg_types.specs.declared.requests.RequestOf.{RequestOf}
@@ -80,7 +81,7 @@ abbrev pub info_asked : RequestOf HandleValue → Option Info
 info_asked (CreateBuffer known) = Some (info.Buffer known)
 info_asked (CreateTexture known) = Some (info.Texture known)
 info_asked (CreateView texture asked) = Some (info.View (view_made reference_of known_by texture (view_asked texture asked)))
-info_asked (CreateSampler known) = Some (info.Sampler known)
+info_asked (CreateSampler known) = Some (info.Sampler (sampler_kind known))
 info_asked (CreateBindGroupLayout entries) = Some (info.GroupLayout (group_layout_made entries))
 info_asked (CreatePipelineLayout layouts) = Some (info.PipelineLayout (pipeline_layout_made reference_of known_by layouts))
 info_asked (CreateBindGroup layout entries) = Some (info.Group (group_made reference_of known_by layout entries))

@@ -71,7 +71,7 @@ fn making_asked(alloc: Global, request: &RequestOf<Handle>) -> Result<Event, NoM
             texture: texture.reference(),
             desc: view_asked(texture, *asked),
         }),
-        RequestOf::CreateSampler { kind } => Ok(Event::CreateSampler { kind: *kind }),
+        RequestOf::CreateSampler { desc } => Ok(Event::CreateSampler { desc: *desc }),
         RequestOf::CreateBindGroupLayout { entries } => Ok(Event::CreateBindGroupLayout {
             entries: entries.share()?,
         }),

@@ -45,7 +45,7 @@ pub fn info_asked(alloc: Global, request: &RequestOf<Handle>) -> Result<Option<I
             let info = view_made(&References, &Infos, texture, &desc)?;
             Ok(Some(Info::View(info)))
         }
-        RequestOf::CreateSampler { kind } => Ok(Some(Info::Sampler(*kind))),
+        RequestOf::CreateSampler { desc } => Ok(Some(Info::Sampler(desc.kind()))),
         RequestOf::CreateBindGroupLayout { entries } => {
             let info = group_layout_made(entries.share()?);
             Ok(Some(Info::GroupLayout(Shared::new(alloc, info)?)))

@@ -2,9 +2,8 @@
 use Rattle.std.proofs.Common.{◌≡◌, ◌≢◌, ◌<◌, ◌≤◌, ◌+◌, ℕ, zero, suc, true, false, List, [], ◌∷◌, Option, Some, None, length, replicate, refl, ap, ap₂, sym, ◌∙◌, arith}
 use Rattle.std.specs.Prelude.{slice_set}
 use Rattle.std.proofs.lemmas.Bool.Decides.{nat_tests}
-use Rattle.wg_types.specs.Commands.{Command}
-use Rattle.wg_model.specs.Settings.{slot_after, settings}
-use Rattle.wg_compute.specs.After.{slots_after, emptied, settings_after}
+use Rattle.wg_model.specs.Settings.{slot_after}
+use Rattle.wg_compute.specs.After.{slots_after, emptied}
 
 -- Nothing is put into a slot.
 pub slots_unset : {X : Type 0} (at : ℕ) (slots : List (Option X)) → slots_after None at slots ≡ slots
@@ -58,7 +57,3 @@ all_emptied (slot ∷ slots) = ap (λ rest. None ∷ rest) (all_emptied slots)
 
 pub four_emptied : {X : Type 0} (slots : List (Option X)) → length slots ≡ 4 → emptied true slots ≡ None ∷ (None ∷ (None ∷ (None ∷ [])))
 four_emptied slots four = all_emptied slots ∙ ap (λ n. replicate n None) four
-
--- What a command does to what is set is what makes up what is set.
-pub settings_grow : (earlier : List Command) (command : Command) → settings_after (settings earlier) command ≡ settings (command ∷ earlier)
-settings_grow earlier command = refl

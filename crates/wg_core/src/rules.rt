@@ -25,6 +25,7 @@ use wg_bundle::check_targets;
 use wg_copy::{check_write_buffer, check_write_texture};
 use wg_encoder::Recording;
 use wg_formats::texture_bytes;
+use wg_groups::check_sampler;
 use wg_history::NoMemory;
 use wg_history::events::Event;
 use wg_queries::check_create as check_queries;
@@ -499,6 +500,7 @@ pub fn first_rule(
         Event::CreateBuffer { info } => create_buffer(state, info),
         Event::CreateTexture { info } => create_texture(state, info),
         Event::CreateView { texture, desc } => create_view(state, *texture, desc),
+        Event::CreateSampler { desc } => check_sampler(desc),
         Event::CreateBindGroupLayout { entries } => {
             group_rules::create_bind_group_layout(state, entries.get().as_slice())
         }
@@ -546,8 +548,7 @@ pub fn first_rule(
             size,
         } => map_async(state, *buffer, *mode, *offset, *size),
         Event::Unmap { buffer } => unmap(state, *buffer),
-        Event::CreateSampler { .. }
-        | Event::CreateEncoder
+        Event::CreateEncoder
         | Event::Complete { .. }
         | Event::PushErrorScope { .. }
         | Event::PopErrorScope

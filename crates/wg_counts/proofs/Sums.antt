@@ -111,14 +111,3 @@ times_among (m ∷ ms) n e = by_test (m == n) e (times_among ms n)
 pub pending_push : (refers : ℕ → List ℕ) (list : List ℕ) (k n : ℕ) → pending refers (list ++ k ∷ []) n ≡ pending refers list n + times n (refers k)
 pending_push refers [] k n = omega arith
 pending_push refers (m ∷ ms) k n = let e = pending_push refers ms k n in omega (arith, e)
-
-sum_le : (p : ℕ → Bool) (m : ℕ) → sum_alive p (λ k. 1) m ≤ m
-sum_le p zero = omega arith
-sum_le p (suc m) = by_alive (p m) (sum_le p m)
-  where
-    by_alive : (b : Bool) → sum_alive p (λ k. 1) m ≤ m → sum_alive p (λ k. 1) m + (if b then 1 else 0) ≤ suc m
-    by_alive true le = omega (arith, le)
-    by_alive false le = omega (arith, le)
-
-pub living_le : (counts : List ℕ) → living counts ≤ length counts
-living_le counts = sum_le (is_alive counts) (length counts)

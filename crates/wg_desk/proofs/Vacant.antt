@@ -1,13 +1,11 @@
 -- Seats of which some were let go, in which nothing was kept.
-use Rattle.std.proofs.Common.{◌≡◌, ◌⊎◌, inl, inr, ℕ, zero, suc, ◌≤◌, true, false, not, List, [], ◌∷◌, ◌++◌, length, Option, Some, None, slice_get, slice_set, nat_lt, refl, ap, sym, subst, ◌∙◌, arith, true≢false}
-use Rattle.std.specs.Prelude.{option_and_then}
+use Rattle.std.proofs.Common.{◌≡◌, ◌⊎◌, inl, inr, ℕ, zero, suc, ◌≤◌, true, false, not, List, [], ◌∷◌, ◌++◌, length, Some, None, slice_get, slice_set, nat_lt, refl, ap, sym, subst, ◌∙◌, arith, true≢false}
 use Rattle.std.proofs.lemmas.Bool.{and_parts, and_cases, cases_lt, lt-ltb, not-true, not-false}
-use Rattle.std.proofs.lemmas.Option.{slice_get_within}
 use Rattle.wg_fading.specs.Fading.{FadingValue, was_let_go, is_kept}
 use Rattle.wg_fading.proofs.Keeping.{gone_cases}
 use Rattle.wg_desk.specs.declared.seats.Seat.{Seat}
-use Rattle.wg_desk.specs.Seats.{vacant, AreVacant, handle_at, changed_at}
-use Rattle.wg_desk.proofs.Lists.{get_same, set_cases, more_cases, changed_same}
+use Rattle.wg_desk.specs.Seats.{vacant, AreVacant, changed_at}
+use Rattle.wg_desk.proofs.Lists.{get_same, set_cases, changed_same}
 
 get_none : {X : Type 0} (xs : List X) (i : ℕ) → length xs ≤ i → slice_get xs i ≡ None
 get_none [] i le = refl
@@ -25,12 +23,6 @@ unkept list n are not_kept = elim (cases_lt n (length list.items)) [
     | inr gone ↦ inr (are n (not-false (was_let_go list.gone n) gone))
   ]
   | inr past ↦ inl (get_none list.items n past)
-]
-
-pub handle_unkept : (list : FadingValue Seat) (n : ℕ) → AreVacant list.gone list.items → is_kept list n ≡ false → handle_at list.items n ≡ None
-handle_unkept list n are not_kept = elim (unkept list n are not_kept) [
-  | inl none ↦ ap (λ (o : Option Seat). option_and_then (λ (s : Seat). s.handle) o) none
-  | inr free ↦ ap (λ (o : Option Seat). option_and_then (λ (s : Seat). s.handle) o) free
 ]
 
 -- a change that leaves a seat in which nothing is
@@ -66,10 +58,3 @@ vacant_left old mid new n seat are kept at out out_gone same in_gone = λ m gone
     let items : new.items ≡ slice_set old.items n vacant = same ∙ out in
     let were : was_let_go (old.gone ++ n ∷ []) m ≡ true = ap (λ (list : List ℕ). was_let_go list m) (sym (in_gone ∙ ap (λ (list : List ℕ). list ++ n ∷ []) out_gone)) ∙ gone in
     ap (λ (list : List Seat). slice_get list m) items ∙ vacant_gone old.gone (slice_set old.items n vacant) n (vacant_set old.gone old.items n vacant are here) (get_same old.items n seat vacant at) m were
-
-pub vacant_more : (gone : List ℕ) (seats : List Seat) (seat : Seat) → AreVacant gone seats → AreVacant gone (seats ++ seat ∷ [])
-vacant_more gone seats seat are = λ m out. by_cases m (are m out) (more_cases seats m seat)
-  where
-    by_cases : (m : ℕ) → slice_get seats m ≡ Some vacant → (slice_get (seats ++ seat ∷ []) m ≡ slice_get seats m) ⊎ ((m ≡ length seats) × (slice_get (seats ++ seat ∷ []) m ≡ Some seat)) → slice_get (seats ++ seat ∷ []) m ≡ Some vacant
-    by_cases m at (inl same) = same ∙ at
-    by_cases m at (inr found) = let within = slice_get_within seats m vacant at in let last = found.0 in absurd (omega (arith, within, last))

@@ -13,13 +13,14 @@ use wg_calls::{bundle_recorder_for, recorder_for};
 use wg_core::Event;
 use wg_encoder::Recorder;
 use wg_entry::NoMemory;
-use wg_types::bindings::{GroupEntryOf, IfaceEntry, LayoutEntry, SamplerKind};
+use wg_types::bindings::{GroupEntryOf, IfaceEntry, LayoutEntry};
 use wg_types::groups::Interface;
 use wg_types::handles::{BufferInfo, Handle, QueriesInfo};
 use wg_types::items::Items;
 use wg_types::render::{RenderDesc, TargetInfo};
 use wg_types::replies::Reply;
 use wg_types::requests::RequestOf;
+use wg_types::samplers::SamplerDesc;
 use wg_types::shared::Shared;
 use wg_types::textures::{TextureInfo, ViewAsked, ViewDesc};
 
@@ -106,16 +107,16 @@ impl Device {
         &self,
         rt: &impl Wait,
         pass: &mut DevicePass,
-        kind: SamplerKind,
+        desc: SamplerDesc,
     ) -> Result<(Handle, Reply), NoMemory>
         requires { CanCall self.now.lock pass.old }
         ensures called { HasCalled self.now.lock pass.old pass.new }
-        ensures done { IfOk result (λ t. IsAct self.now.lock pass.old pass.new (Event.CreateSampler kind) t.1) }
-        ensures handle { IfOk result (λ t. IsHandleOf self.now.lock (request.CreateSampler kind) t.1 t.0) }
+        ensures done { IfOk result (λ t. IsAct self.now.lock pass.old pass.new (Event.CreateSampler desc) t.1) }
+        ensures handle { IfOk result (λ t. IsHandleOf self.now.lock (request.CreateSampler desc) t.1 t.0) }
         ensures genuine { IfOk result (λ t. IsGenuineIn self.now.lock pass.new t.0) }
         ensures refused { IfErr result (λ _. HasNotMade self.now.lock pass.old pass.new) }
     {
-        self.make_of(rt, pass, RequestOf::CreateSampler { kind })
+        self.make_of(rt, pass, RequestOf::CreateSampler { desc })
     }
 
     /// Makes a bind group layout (WebGPU, "createBindGroupLayout").

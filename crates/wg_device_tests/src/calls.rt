@@ -9,11 +9,13 @@ use wg_encoder::Recorder;
 use wg_entry::NoMemory;
 use wg_limits::default_limits;
 use wg_types::bindings::{BindingKind, GroupEntryOf, LayoutEntry, ResourceOf, SamplerKind};
+use wg_types::fixed::{CullMode, DepthState, PrimitiveState, StencilState, Topology};
 use wg_types::formats::Format;
 use wg_types::handles::{BufferInfo, Handle, Info, ObjRef, QueriesInfo};
 use wg_types::items::Items;
-use wg_types::render::{DepthState, RenderDesc, TargetInfo};
+use wg_types::render::{RenderDesc, TargetInfo};
 use wg_types::replies::{Answer, Filter, How, Reply, Settlement};
+use wg_types::samplers::{Compare, SamplerDesc};
 use wg_types::textures::{
     AspectWord, DataLayout, TextureDim, TextureInfo, TextureSpot, ViewDesc, ViewDim,
 };
@@ -102,7 +104,8 @@ fn of_sampler<R: Wait>(
         },
     };
     let entries = vec![in alloc; entry].ok()?;
-    let sampler = made(device.create_sampler(rt, pass, SamplerKind::Filtering), 2)?;
+    let desc = SamplerDesc::Kind(SamplerKind::Filtering);
+    let sampler = made(device.create_sampler(rt, pass, desc), 2)?;
     let layout = made(device.create_bind_group_layout(rt, pass, entries), 3)?;
     Some((sampler, layout))
 }
@@ -133,12 +136,20 @@ fn depth_alone(alloc: Global) -> RenderDesc {
         iface: Items::new(alloc),
         buffers: Items::new(alloc),
         targets: Items::new(alloc),
+        primitive: PrimitiveState {
+            topology: Topology::TriangleList,
+            strip_index_format: None,
+            cull_mode: CullMode::None,
+        },
         depth: Some(DepthState {
             format: Format::Depth16Unorm,
-            depth_write: false,
-            stencil_write: false,
+            depth_write: Some(false),
+            depth_compare: Some(Compare::Always),
+            stencil: StencilState::Written(false),
+            bias: false,
         }),
         samples: 1,
+        alpha_to_coverage: false,
     }
 }
 

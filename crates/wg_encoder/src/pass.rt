@@ -41,7 +41,7 @@ pub fn begin(alloc: Global, maker: &Maker, command: &Command) -> Result<PassStat
     let Some(begin) = command.render_begun() else {
         return Ok(PassState::Compute(ComputeState::new()));
     };
-    if let Some(rule) = check_begin(begin) {
+    if let Some(rule) = check_begin(&maker.limits, begin) {
         return Ok(PassState::Refused(rule));
     }
     let state = RenderState::new(alloc, begin)?;

@@ -52,6 +52,7 @@ pub fn command_limits(limits: &Limits) -> CommandLimits
 {
     CommandLimits {
         max_texture_dimension_2d: limits.max_texture_dimension_2d,
+        max_color_attachment_bytes_per_sample: limits.max_color_attachment_bytes_per_sample,
     }
 }
 
@@ -61,6 +62,7 @@ pub fn no_limits() -> CommandLimits
 {
     CommandLimits {
         max_texture_dimension_2d: 0,
+        max_color_attachment_bytes_per_sample: None,
     }
 }
 

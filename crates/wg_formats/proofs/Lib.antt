@@ -1,3 +1,4 @@
 pub mod BindingKinds
 pub mod Halving
 pub mod Levels
+pub mod SampleBytes

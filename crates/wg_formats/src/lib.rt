@@ -1,6 +1,6 @@
 //! Texture formats, extents of mip levels, the layout of texels in bytes, what handles know of buffers, textures,
-//! query sets and bundles, what is known of a view, when bindings are of one kind, the bits of stages, and what resources
-//! take of a budget of bytes.
+//! query sets and bundles, what is known of a view, when bindings are of one kind, the bits of stages, what resources
+//! take of a budget of bytes, and what samples of color targets take of theirs.
 #![tactic(auto)]
 
 mod aspects;
@@ -9,6 +9,7 @@ mod extents;
 mod handles;
 mod layout;
 mod memory;
+mod samples;
 
 pub use aspects::{
     aspects_meet, copy_compatible, has_depth, has_named, has_stencil, is_color, named_aspects,
@@ -24,3 +25,4 @@ pub use handles::{
 };
 pub use layout::{bytes_fit, required};
 pub use memory::{bytes_of, texture_bytes};
+pub use samples::{bytes_within, sample_fits, targets_sample_fits};

@@ -20,7 +20,9 @@ use Rattle.wg_types.specs.declared.groups.PipelineLayoutInfo.{PipelineLayoutInfo
 use Rattle.wg_types.specs.declared.groups.GroupInfo.{GroupInfo}
 use Rattle.wg_types.specs.declared.groups.ComputeInfo.{ComputeInfo}
 use Rattle.wg_types.specs.declared.groups.RenderInfo.{RenderInfo}
-use Rattle.wg_types.specs.declared.render.DepthState.{DepthState}
+use Rattle.wg_types.specs.declared.fixed.Target.{Target}
+use Rattle.wg_types.specs.declared.fixed.DepthState.{DepthState}
+use Rattle.wg_types.specs.declared.fixed.PrimitiveState.{PrimitiveState}
 use Rattle.wg_types.specs.declared.render.RenderDesc.{RenderDesc}
 use Rattle.wg_types.specs.declared.render.TargetInfo.{TargetInfo}
 use Rattle.wg_types.specs.declared.bundles.BundleInfo.{BundleInfo}
@@ -38,27 +40,12 @@ use Rattle.wg_types.specs.declared.vertex.VertexStep.TheVariants as vertex_step
 use Rattle.wg_types.specs.declared.vertex.VertexAttribute.{VertexAttribute}
 use Rattle.wg_types.specs.declared.vertex.VertexBuffer.{VertexBuffer}
 use Rattle.wg_types.specs.declared.handles.Info.TheVariants.{Buffer, Texture, View, Sampler, GroupLayout, PipelineLayout, Group, Compute, Render, Queries, Encoder, BundleEncoder, CommandBuffer, Bundle}
-use Rattle.wg_model.specs.Equality.{same_bool, same_list, same_owner, same_reference, same_buffer, stage_number, same_sampler, same_stage, same_binding_kind, same_layout_entry, same_iface_entry, same_bound_resource, same_bound_entry, same_group_layout, same_pipeline_layout, same_group, same_compute, vertex_format_number, vertex_step_number, same_attribute, same_vertex_buffer, same_option, same_depth_state, same_render_desc, same_render}
+use Rattle.wg_model.specs.Equality.{same_bool, same_list, same_owner, same_reference, same_buffer, stage_number, same_sampler, same_stage, same_binding_kind, same_layout_entry, same_iface_entry, same_bound_resource, same_bound_entry, same_group_layout, same_pipeline_layout, same_group, same_compute, vertex_format_number, vertex_step_number, same_attribute, same_vertex_buffer, same_option, same_target, same_primitive, same_depth_state, same_render_desc, same_render}
 use Rattle.wg_history.specs.Infos.{same_target_info, same_cells, bundle_use_number, same_touch, same_bundle, SameInfoIs}
 use Rattle.wg_formats.proofs.BindingKinds.{numbers_tell, words_tell, bools_tell, like_two, like_three, like_four, like_five, formats_tell, samplers_tell, binding_kinds_tell}
+use Rattle.wg_history.proofs.Telling.{lists_tell, options_tell}
+use Rattle.wg_history.proofs.FixedLaws.{targets_tell, primitives_tell, depth_states_tell}
 use Rattle.wg_history.proofs.InfoLaws.{buffers_tell, queries_tell, textures_tell, references_tell, views_tell}
-
--- Lists, where their items are told apart.
-lists_tell : {X : Type 0} (same : X → X → Bool) → ((x y : X) → Decides (same x y) (x ≡ y)) → (xs ys : List X) → Decides (same_list same xs ys) (xs ≡ ys)
-lists_tell same tell [] [] = (λ e. refl, λ e. refl)
-lists_tell same tell [] (y ∷ ys) = (λ e. absurd (cc), λ e. absurd (cc))
-lists_tell same tell (x ∷ xs) [] = (λ e. absurd (cc), λ e. absurd (cc))
-lists_tell same tell (x ∷ xs) (y ∷ ys) =
-    let first = tell x y in
-    let rest = lists_tell same tell xs ys in
-    (λ e. ap₂ ◌∷◌ (first.0 (and_parts (same x y) (same_list same xs ys) e).0) (rest.0 (and_parts (same x y) (same_list same xs ys) e).1), λ e. and_from (same x y) (same_list same xs ys) (first.1 (cc)) (rest.1 (cc)))
-
--- Values that may be left out, likewise.
-options_tell : {X : Type 0} (same : X → X → Bool) → ((x y : X) → Decides (same x y) (x ≡ y)) → (a b : Option X) → Decides (same_option same a b) (a ≡ b)
-options_tell same tell None None = (λ e. refl, λ e. refl)
-options_tell same tell None (Some b) = (λ e. absurd (cc), λ e. absurd (cc))
-options_tell same tell (Some a) None = (λ e. absurd (cc), λ e. absurd (cc))
-options_tell {X} same tell (Some a) (Some b) = let d = tell a b in (λ e. ap (λ (x : X). Some x) (d.0 e), λ e. d.1 (cc))
 
 -- Words.
 abbrev stage_at : ℕ → Stage
@@ -207,30 +194,30 @@ vertex_buffers_tell a b =
     (Decides-and (a.stride == b.stride) (vertex_step_number a.step == vertex_step_number b.step) (numbers_tell a.stride b.stride) (words_tell vertex_step_number vertex_step_at vertex_step_back a.step b.step))
     (lists_tell same_attribute attributes_tell a.attributes b.attributes))
 
-abbrev depth_state_made : Format → Bool → Bool → DepthState
-depth_state_made format depth_write stencil_write = record { format = format; depth_write = depth_write; stencil_write = stencil_write }
+-- a constructor of seven parts
+like_seven : {A B C D E F G X : Type 0} (f : A → B → C → D → E → F → G → X) (a p : A) (b q : B) (c r : C) (d s : D) (e t : E) (g u : F) (h v : G)
+    → ((((((a ≡ p) × (b ≡ q)) × (c ≡ r)) × (d ≡ s)) × (e ≡ t)) × (g ≡ u)) × (h ≡ v) → f a b c d e g h ≡ f p q r s t u v
+like_seven f a p b q c r d s e t g u h v all =
+    like_five (λ a b c d e. f a b c d e g h) a p b q c r d s e t all.0.0 ∙ (ap (λ x. f p q r s t x h) all.0.1 ∙ ap (λ x. f p q r s t u x) all.1)
 
-depth_states_tell : (a b : DepthState) → Decides (same_depth_state a b) (a ≡ b)
-depth_states_tell a b =
-    Decides-like _ (like_three depth_state_made a.format b.format a.depth_write b.depth_write a.stencil_write b.stencil_write) (λ e. ((ap (λ (x : DepthState). x.format) e, ap (λ (x : DepthState). x.depth_write) e), ap (λ (x : DepthState). x.stencil_write) e))
-    (Decides-and _ (same_bool a.stencil_write b.stencil_write)
-    (Decides-and (same_format a.format b.format) (same_bool a.depth_write b.depth_write) (formats_tell a.format b.format) (bools_tell a.depth_write b.depth_write))
-    (bools_tell a.stencil_write b.stencil_write))
-
-abbrev desc_made : List IfaceEntry → List VertexBuffer → List (Option Format) → Option DepthState → ℕ → RenderDesc
-desc_made iface buffers targets depth samples = record { iface = iface; buffers = buffers; targets = targets; depth = depth; samples = samples }
+abbrev desc_made : List IfaceEntry → List (Option VertexBuffer) → List (Option Target) → PrimitiveState → Option DepthState → ℕ → Bool → RenderDesc
+desc_made iface buffers targets primitive depth samples alpha_to_coverage = record { iface = iface; buffers = buffers; targets = targets; primitive = primitive; depth = depth; samples = samples; alpha_to_coverage = alpha_to_coverage }
 
 descs_tell : (a b : RenderDesc) → Decides (same_render_desc a b) (a ≡ b)
 descs_tell a b =
-    Decides-like _ (like_five desc_made a.iface b.iface a.buffers b.buffers a.targets b.targets a.depth b.depth a.samples b.samples)
-    (λ e. ((((ap (λ (x : RenderDesc). x.iface) e, ap (λ (x : RenderDesc). x.buffers) e), ap (λ (x : RenderDesc). x.targets) e), ap (λ (x : RenderDesc). x.depth) e), ap (λ (x : RenderDesc). x.samples) e))
+    Decides-like _ (like_seven desc_made a.iface b.iface a.buffers b.buffers a.targets b.targets a.primitive b.primitive a.depth b.depth a.samples b.samples a.alpha_to_coverage b.alpha_to_coverage)
+    (λ e. ((((((ap (λ (x : RenderDesc). x.iface) e, ap (λ (x : RenderDesc). x.buffers) e), ap (λ (x : RenderDesc). x.targets) e), ap (λ (x : RenderDesc). x.primitive) e), ap (λ (x : RenderDesc). x.depth) e), ap (λ (x : RenderDesc). x.samples) e), ap (λ (x : RenderDesc). x.alpha_to_coverage) e))
+    (Decides-and _ (same_bool a.alpha_to_coverage b.alpha_to_coverage)
     (Decides-and _ (a.samples == b.samples)
     (Decides-and _ (same_option same_depth_state a.depth b.depth)
-    (Decides-and _ (same_list (same_option same_format) a.targets b.targets)
-    (Decides-and (same_list same_iface_entry a.iface b.iface) (same_list same_vertex_buffer a.buffers b.buffers) (lists_tell same_iface_entry iface_entries_tell a.iface b.iface) (lists_tell same_vertex_buffer vertex_buffers_tell a.buffers b.buffers))
-    (lists_tell (same_option same_format) (options_tell same_format formats_tell) a.targets b.targets))
+    (Decides-and _ (same_primitive a.primitive b.primitive)
+    (Decides-and _ (same_list (same_option same_target) a.targets b.targets)
+    (Decides-and (same_list same_iface_entry a.iface b.iface) (same_list (same_option same_vertex_buffer) a.buffers b.buffers) (lists_tell same_iface_entry iface_entries_tell a.iface b.iface) (lists_tell (same_option same_vertex_buffer) (options_tell same_vertex_buffer vertex_buffers_tell) a.buffers b.buffers))
+    (lists_tell (same_option same_target) (options_tell same_target targets_tell) a.targets b.targets))
+    (primitives_tell a.primitive b.primitive))
     (options_tell same_depth_state depth_states_tell a.depth b.depth))
     (numbers_tell a.samples b.samples))
+    (bools_tell a.alpha_to_coverage b.alpha_to_coverage))
 
 abbrev render_made : Option ObjRef → PipelineLayoutInfo → Bool → RenderDesc → RenderInfo
 render_made layout layout_info auto desc = record { layout = layout; layout_info = layout_info; auto = auto; desc = desc }

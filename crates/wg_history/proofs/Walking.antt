@@ -172,7 +172,7 @@ fits_next maker None number depth Encoder command was on_open none rule = by_beg
   where
     by_begin : (b : Bool) → (if b then None else first_unmet (command_rules maker.device depth command)) ≡ None → open_rule maker (if b then Some (record { number = number; begin = command; earlier = [] }) else None) ≡ None
         → HandlesFit (named command) × (open_rule maker None ≡ None)
-    by_begin true gives rule = (named_fit maker.device (named command) (met_none (common_rules maker.device (named command)) (both_none (first_unmet (common_rules maker.device (named command))) (first_unmet (begun_rules command)) rule).0), refl)
+    by_begin true gives rule = (named_fit maker.device (named command) (met_none (common_rules maker.device (named command)) (both_none (first_unmet (common_rules maker.device (named command))) (first_unmet (begun_rules maker.limits command)) rule).0), refl)
     by_begin false gives rule = (named_fit maker.device (named command) (met_before (common_rules maker.device (named command)) (own_rules command ++ debug_rules depth command) (met_none (command_rules maker.device depth command) gives)), refl)
 fits_next maker None number depth (Pass q) command was on_open none rule = absurd (true≢false (sym on_open))
 fits_next maker (Some pass) number depth (Pass q) command was on_open none rule = by_open (q == pass.number) on_open none rule

@@ -11,6 +11,7 @@ use Rattle.wg_model.specs.Rules.{Rule, first_unmet}
 use Rattle.wg_model.specs.Buffers.{create_buffer_rules}
 use Rattle.wg_model.specs.Textures.{create_texture_rules}
 use Rattle.wg_model.specs.Queries.{create_queries_rules}
+use Rattle.wg_model.specs.Samplers.{sampler_rules}
 use Rattle.wg_model.specs.Bundles.{bundle_target_rules}
 use Rattle.wg_model.specs.Memory.{texture_bytes, bytes_of}
 use Rattle.wg_history.specs.Entries.{Setup, Event, CreateBuffer, CreateTexture, CreateView, CreateSampler, CreateBindGroupLayout, CreatePipelineLayout, CreateBindGroup, CreateComputePipeline, CreateRenderPipeline, GetBindGroupLayout, CreateQuerySet, CreateEncoder, CreateBundleEncoder, Finish, FinishBundle, Late, Submit, WriteBuffer, WriteTexture, Destroy, Drop, Complete, PushErrorScope, PopErrorScope, Lose, WorkDone, MapAsync, Unmap, Past}
@@ -44,7 +45,7 @@ abbrev pub first_rule : Setup → Past → Event → Option ℕ
 first_rule setup past (CreateBuffer info) = create_buffer_rule setup past info
 first_rule setup past (CreateTexture info) = create_texture_rule setup past info
 first_rule setup past (CreateView texture desc) = create_view_rule setup past texture desc
-first_rule setup past (CreateSampler kind) = None
+first_rule setup past (CreateSampler desc) = first_unmet (sampler_rules desc)
 first_rule setup past (CreateBindGroupLayout entries) = create_bind_group_layout_rule setup entries
 first_rule setup past (CreatePipelineLayout layouts) = create_pipeline_layout_rule setup past layouts
 first_rule setup past (CreateBindGroup layout entries) = create_bind_group_rule setup past layout entries

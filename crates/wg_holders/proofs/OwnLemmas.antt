@@ -8,7 +8,7 @@ use Rattle.wg_holders.specs.declared.marks.Mark.{Mark}
 use Rattle.wg_holders.specs.declared.tokens.Awaited.{Awaited}
 use Rattle.wg_holders.specs.Holders.{mark_at, list_at, new_mark, is_unspent, with_ended, with_consumed, with_dropped}
 use Rattle.wg_holders.specs.Tokens.{Notes, sum_below, held_by, named, lives, living, waits, IsOwned, Moves, Raises}
-use Rattle.wg_holders.proofs.Sums.{at_same, at_other, sum_same, sum_but, sum_at, sum_le}
+use Rattle.wg_holders.proofs.Sums.{at_same, at_other, sum_same, sum_but, sum_at}
 use Rattle.wg_holders.proofs.MarkLemmas.{field_same, field_other, dropped_spent, mark_more, mark_last}
 use Rattle.wg_holders.proofs.QueueLemmas.{waits_append, dropped_at, dropped_other}
 
@@ -49,17 +49,6 @@ lives_in marks n lt = ap (λ b. if b then (if is_some (mark_at marks n).dropped 
 
 lives_out : (marks : List Mark) (n : ℕ) → length marks ≤ n → lives marks n ≡ 0
 lives_out marks n past = ap (λ b. if b then (if is_some (mark_at marks n).dropped then 0 else 1) else 0) (le-ltb n (length marks) past)
-
-lives_le : (marks : List Mark) (n : ℕ) → lives marks n ≤ 1
-lives_le marks n = by_tests (nat_lt n (length marks)) (is_some (mark_at marks n).dropped)
-  where
-    by_tests : (a b : Bool) → (if a then (if b then 0 else 1) else 0) ≤ 1
-    by_tests true true = omega arith
-    by_tests true false = omega arith
-    by_tests false b = omega arith
-
-pub living_le : (marks : List Mark) → living marks ≤ length marks
-living_le marks = sum_le (lives marks) (length marks) (lives_le marks)
 
 lives_same : (old new : List Mark) (n : ℕ) → length new ≡ length old → (mark_at new n).dropped ≡ (mark_at old n).dropped → lives new n ≡ lives old n
 lives_same old new n len same = ap (λ k. if nat_lt n k then (if is_some (mark_at new n).dropped then 0 else 1) else 0) len ∙ ap (λ o. if nat_lt n (length old) then (if is_some o then 0 else 1) else 0) same

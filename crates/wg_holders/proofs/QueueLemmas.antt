@@ -186,17 +186,6 @@ opens_dropped number k old new opened notes opens = opens_less old new opened no
 
 -- one object more
 
-pub tidy_none : IsTidy [] [] []
-tidy_none = record {
-  opens = record { rises = tt; are_listed = λ e is. is };
-  open_first = refl;
-  drops = record { made_before = λ n k is. absurd (no_drop n k is); in_order = tt; once = λ n. omega arith; are_listed = λ n is. absurd (true≢false (sym is)) };
-  awaited_first = refl;
-}
-  where
-    no_drop : (n k : ℕ) → (mark_at [] n).dropped ≡ Some k → ⊥
-    no_drop n k e = cc
-
 open_more : (marks : List Mark) (encoder : Bool) (e : ℕ) → e < length marks → is_open_at (marks ++ new_mark encoder ∷ []) e ≡ is_open_at marks e
 open_more marks encoder e lt = ap is_open (mark_more marks encoder e lt)
 

@@ -8,10 +8,6 @@ pub use Rattle.wg_counts.proofs.Sums.{one_if, at_same, at_other}
 use Rattle.wg_counts.proofs.Sums.{times_append}
 use Rattle.wg_holders.specs.Tokens.{sum_below}
 
-pub one_le : (b : Bool) → one_if b ≤ 1
-one_le true = omega arith
-one_le false = omega arith
-
 -- how often a list has a number
 
 pub times_take_more : (n : ℕ) (xs : List ℕ) (i d : ℕ) → i < length xs → times n (take (i + 1) xs) ≡ times n (take i xs) + (if get_or xs i d == n then 1 else 0)
@@ -65,10 +61,6 @@ sum_at f k (suc m) lt = elim (cases_eq m k) [
   | inl here ↦ (let p = ap f here in omega (arith, p))
   | inr other ↦ (let e = sum_at f k m (omega (arith, lt, other)) in omega (arith, e))
 ]
-
-pub sum_le : (f : ℕ → ℕ) (m : ℕ) → ((b : ℕ) → f b ≤ 1) → sum_below f m ≤ m
-sum_le f zero one = omega arith
-sum_le f (suc m) one = let e = sum_le f m one in let p = one m in omega (arith, e, p)
 
 -- a sum is more than nothing where one of its parts is
 pub sum_any : (f : ℕ → ℕ) (test : ℕ → Bool) (m : ℕ) → ((b : ℕ) → nat_lt 0 (f b) ≡ test b) → nat_lt 0 (sum_below f m) ≡ any_below test m

@@ -46,9 +46,6 @@ same_noted kept fresh x same object = by_parts (kind_writes x.1 && is_full x.0) 
     by_parts true false e = refl
     by_parts true true e = subst (λ n. over fresh n (rows_in kept n) ≡ with_effect x.0 x.1 (over fresh n (rows_in kept n))) (eqb-true (row_object (row_of x.0)) object e) (sym same)
 
-pub none_noted : (kept : SetRows) (fresh : List (ℕ × List SetRow)) (x : Cells × AccessKind) → (kind_writes x.1 && is_full x.0) ≡ false → NotesOne kept fresh x fresh
-none_noted kept fresh x e object = sym (ap (λ t. if t && (row_object (row_of x.0) == object) then with_effect x.0 x.1 (over fresh object (rows_in kept object)) else over fresh object (rows_in kept object)) e)
-
 -- One more access.
 pub access_step : (kept : SetRows) (old fresh noted : List (ℕ × List SetRow)) (xs : List (Cells × AccessKind)) (i : ℕ) (d : Cells × AccessKind) → i < length xs → NotesOne kept fresh (get_or xs i d) noted → ((object : ℕ) → rows_after object (drop i xs) (over fresh object (rows_in kept object)) ≡ rows_after object xs (over old object (rows_in kept object))) → (object : ℕ) → rows_after object (drop (i + 1) xs) (over noted object (rows_in kept object)) ≡ rows_after object xs (over old object (rows_in kept object))
 access_step kept old fresh noted xs i d l one h object =

@@ -1,16 +1,16 @@
 -- What a device has of a limit lies between the default and the best.
 use Rattle.std.proofs.Common.{◌≡◌, ℕ, ◌<◌, Bool, true, false, cond, min, max, List, [], ◌∷◌, Option, Some, None, ◌^◌, lit<, refl, sym, ap, subst, ◌∙◌, arith}
-use Rattle.std.specs.Prelude.{IfSome, nat_le}
+use Rattle.std.specs.Prelude.{IfSome, nat_le, is_some, ◌||◌}
 use Rattle.std.specs.List.{find, list_all}
-use Rattle.std.specs.Option.{unwrap_or}
+use Rattle.std.specs.Option.{option_map, unwrap_or}
 use Rattle.std.proofs.lemmas.Bool.{le-leb, leb-true, and_parts}
 use Rattle.std.proofs.lemmas.Slice.Eq.{bytes_eq-Decides}
 use Rattle.std.proofs.Math.Nat.{le-max_left, max-le, min-le_left, le-min}
 use Rattle.wg_limits.specs.Names.{limit_text, limit_named, same_limit}
-use Rattle.wg_limits.specs.Limits.{default_limits, best_limits, limit_of, is_alignment, no_better, can_ask, granted, limit_for, limits_for, IsBetween, HaveFixed}
+use Rattle.wg_limits.specs.Limits.{default_limits, best_limits, limit_of, is_alignment, no_better, can_ask, granted, limit_for, limits_for, is_asked, IsBetween, HaveFixed}
 use Rattle.wg_limits.proofs.NameLemmas.{text_names}
 use Rattle.wg_limits.specs.declared.names.LimitName.{LimitName}
-use Rattle.wg_limits.specs.declared.names.LimitName.TheVariants.{MaxTextureDimension1d, MaxTextureDimension2d, MaxTextureDimension3d, MaxTextureArrayLayers, MaxBindGroups, MaxBindingsPerBindGroup, MaxDynamicUniformBuffersPerPipelineLayout, MaxDynamicStorageBuffersPerPipelineLayout, MaxSampledTexturesPerShaderStage, MaxSamplersPerShaderStage, MaxStorageBuffersPerShaderStage, MaxStorageTexturesPerShaderStage, MaxUniformBuffersPerShaderStage, MaxUniformBufferBindingSize, MaxStorageBufferBindingSize, MinUniformBufferOffsetAlignment, MinStorageBufferOffsetAlignment, MaxVertexBuffers, MaxVertexAttributes, MaxVertexBufferArrayStride, MaxBufferSize, MaxColorAttachments, MaxComputeWorkgroupsPerDimension}
+use Rattle.wg_limits.specs.declared.names.LimitName.TheVariants.{MaxTextureDimension1d, MaxTextureDimension2d, MaxTextureDimension3d, MaxTextureArrayLayers, MaxBindGroups, MaxBindingsPerBindGroup, MaxDynamicUniformBuffersPerPipelineLayout, MaxDynamicStorageBuffersPerPipelineLayout, MaxSampledTexturesPerShaderStage, MaxSamplersPerShaderStage, MaxStorageBuffersPerShaderStage, MaxStorageTexturesPerShaderStage, MaxUniformBuffersPerShaderStage, MaxUniformBufferBindingSize, MaxStorageBufferBindingSize, MinUniformBufferOffsetAlignment, MinStorageBufferOffsetAlignment, MaxVertexBuffers, MaxVertexAttributes, MaxVertexBufferArrayStride, MaxBufferSize, MaxColorAttachments, MaxComputeWorkgroupsPerDimension, MaxColorAttachmentBytesPerSample}
 
 -- names that are spelled the same are one
 same_name : (a b : LimitName) → same_limit a b ≡ true → a ≡ b
@@ -42,6 +42,7 @@ default_offered MaxVertexBufferArrayStride = refl
 default_offered MaxBufferSize = refl
 default_offered MaxColorAttachments = refl
 default_offered MaxComputeWorkgroupsPerDimension = refl
+default_offered MaxColorAttachmentBytesPerSample = refl
 
 abbrev no_better_at : Bool → ℕ → ℕ → Bool
 no_better_at alignment a b = cond alignment (nat_le b a) (nat_le a b)
@@ -82,6 +83,12 @@ found name (value ∷ values) h =
 pub between : (name : LimitName) (values : List (LimitName × ℕ)) → list_all can_ask values ≡ true → IsBetween name (limit_for name values)
 between name values h = granted_between name (find (λ value. same_limit value.0 name) values) (found name values h)
 
+-- what a device tells of the bytes of a sample is what it has of them, also where it has no bound
+granted_of_bound : (asked : Option (LimitName × ℕ))
+    → unwrap_or (option_map (λ a. granted MaxColorAttachmentBytesPerSample asked) asked) 32 ≡ granted MaxColorAttachmentBytesPerSample asked
+granted_of_bound None = refl
+granted_of_bound (Some asked) = refl
+
 pub all_between : (values : List (LimitName × ℕ)) → list_all can_ask values ≡ true → (name : LimitName) → IsBetween name (limit_of name (limits_for values))
 all_between values h MaxTextureDimension1d = between MaxTextureDimension1d values h
 all_between values h MaxTextureDimension2d = between MaxTextureDimension2d values h
@@ -106,6 +113,8 @@ all_between values h MaxVertexBufferArrayStride = between MaxVertexBufferArraySt
 all_between values h MaxBufferSize = between MaxBufferSize values h
 all_between values h MaxColorAttachments = between MaxColorAttachments values h
 all_between values h MaxComputeWorkgroupsPerDimension = between MaxComputeWorkgroupsPerDimension values h
+all_between values h MaxColorAttachmentBytesPerSample =
+    subst (IsBetween MaxColorAttachmentBytesPerSample) (sym (granted_of_bound (find (λ value. same_limit value.0 MaxColorAttachmentBytesPerSample) values))) (between MaxColorAttachmentBytesPerSample values h)
 
 -- what is asked of a limit whose best fits 32 bits fits them
 default_small : (name : LimitName) → limit_of name default_limits < 2 ^ 32
@@ -132,6 +141,7 @@ default_small MaxVertexBufferArrayStride = lit< tt
 default_small MaxBufferSize = lit< tt
 default_small MaxColorAttachments = lit< tt
 default_small MaxComputeWorkgroupsPerDimension = lit< tt
+default_small MaxColorAttachmentBytesPerSample = lit< tt
 
 small_between : (alignment : Bool) (default value best : ℕ) → no_better_at alignment default value ≡ true → no_better_at alignment value best ≡ true
     → default < 2 ^ 32 → best < 2 ^ 32 → value < 2 ^ 32
@@ -157,3 +167,19 @@ all_fixed values h = record {
   storage_buffer_offset_alignment = between_equals _ _ (between MinStorageBufferOffsetAlignment values h).1 (between MinStorageBufferOffsetAlignment values h).0;
   queries_per_set = refl;
 }
+
+-- ---- the bound of the bytes of a sample is there where it is asked for
+
+bound_kept : (value : LimitName × ℕ) (g : LimitName × ℕ → ℕ) (rest : Option (LimitName × ℕ)) (some same : Bool)
+    → is_some (option_map g rest) ≡ some → is_some (option_map g (cond same (Some value) rest)) ≡ (same || some)
+bound_kept value g rest some true h = refl
+bound_kept value g rest some false h = h
+
+found_asked : (name : LimitName) (g : LimitName × ℕ → ℕ) (values : List (LimitName × ℕ))
+    → is_some (option_map g (find (λ value. same_limit value.0 name) values)) ≡ is_asked name values
+found_asked name g [] = refl
+found_asked name g (value ∷ values) =
+    bound_kept value g (find (λ v. same_limit v.0 name) values) (is_asked name values) (same_limit value.0 name) (found_asked name g values)
+
+pub bound_asked : (values : List (LimitName × ℕ)) → is_some (limits_for values).max_color_attachment_bytes_per_sample ≡ is_asked MaxColorAttachmentBytesPerSample values
+bound_asked values = found_asked MaxColorAttachmentBytesPerSample (λ a. limit_for MaxColorAttachmentBytesPerSample values) values

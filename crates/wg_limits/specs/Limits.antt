@@ -1,14 +1,16 @@
 -- The limits of devices (WebGPU, "Limits"): what a device has where nothing is asked for, the best that one can ask for,
 -- and what comes of asking (WebGPU, "requestDevice").
 use Rattle.std.specs.Prelude.{◌≡◌, ℕ, ◌^◌, max, min, Bool, true, false, not, ◌&&◌, ◌||◌, IsTrue, nat_lt, nat_le, List, Option, Some, None, if◌then◌else◌}
-use Rattle.std.specs.List.{find, list_all}
+use Rattle.std.specs.List.{find, list_all, list_any}
+use Rattle.std.specs.Option.{option_map, unwrap_or}
 use Rattle.std.specs.Int.{is_power_of_two}
 use Rattle.wg_types.specs.declared.limits.Limits.{Limits}
 use Rattle.wg_limits.specs.Names.{same_limit}
 use Rattle.wg_limits.specs.declared.names.LimitName.{LimitName}
-use Rattle.wg_limits.specs.declared.names.LimitName.TheVariants.{MaxTextureDimension1d, MaxTextureDimension2d, MaxTextureDimension3d, MaxTextureArrayLayers, MaxBindGroups, MaxBindingsPerBindGroup, MaxDynamicUniformBuffersPerPipelineLayout, MaxDynamicStorageBuffersPerPipelineLayout, MaxSampledTexturesPerShaderStage, MaxSamplersPerShaderStage, MaxStorageBuffersPerShaderStage, MaxStorageTexturesPerShaderStage, MaxUniformBuffersPerShaderStage, MaxUniformBufferBindingSize, MaxStorageBufferBindingSize, MinUniformBufferOffsetAlignment, MinStorageBufferOffsetAlignment, MaxVertexBuffers, MaxVertexAttributes, MaxVertexBufferArrayStride, MaxBufferSize, MaxColorAttachments, MaxComputeWorkgroupsPerDimension}
+use Rattle.wg_limits.specs.declared.names.LimitName.TheVariants.{MaxTextureDimension1d, MaxTextureDimension2d, MaxTextureDimension3d, MaxTextureArrayLayers, MaxBindGroups, MaxBindingsPerBindGroup, MaxDynamicUniformBuffersPerPipelineLayout, MaxDynamicStorageBuffersPerPipelineLayout, MaxSampledTexturesPerShaderStage, MaxSamplersPerShaderStage, MaxStorageBuffersPerShaderStage, MaxStorageTexturesPerShaderStage, MaxUniformBuffersPerShaderStage, MaxUniformBufferBindingSize, MaxStorageBufferBindingSize, MinUniformBufferOffsetAlignment, MinStorageBufferOffsetAlignment, MaxVertexBuffers, MaxVertexAttributes, MaxVertexBufferArrayStride, MaxBufferSize, MaxColorAttachments, MaxComputeWorkgroupsPerDimension, MaxColorAttachmentBytesPerSample}
 
--- The limits of a device that is opened without asking for any.
+-- The limits of a device that is opened without asking for any. Of the bytes of a sample it has no bound: those are bounded only where
+-- one asks for that.
 abbrev pub default_limits : Limits
 default_limits = record {
   max_texture_dimension_1d = 8192;
@@ -33,6 +35,7 @@ default_limits = record {
   max_vertex_buffer_array_stride = 2048;
   max_buffer_size = 268435456;
   max_color_attachments = 8;
+  max_color_attachment_bytes_per_sample = None;
   max_compute_workgroups_per_dimension = 65535;
   max_queries_per_set = 4096;
 }
@@ -57,9 +60,10 @@ best_limits = record default_limits {
   max_vertex_attributes = 32;
   max_vertex_buffer_array_stride = 8192;
   max_buffer_size = 4294967296;
+  max_color_attachment_bytes_per_sample = Some 128;
 }
 
--- a limit by its name
+-- a limit by its name. A device without a bound of the bytes of a sample tells the default of WebGPU
 abbrev pub limit_of : LimitName → Limits → ℕ
 limit_of MaxTextureDimension1d limits = limits.max_texture_dimension_1d
 limit_of MaxTextureDimension2d limits = limits.max_texture_dimension_2d
@@ -84,6 +88,7 @@ limit_of MaxVertexBufferArrayStride limits = limits.max_vertex_buffer_array_stri
 limit_of MaxBufferSize limits = limits.max_buffer_size
 limit_of MaxColorAttachments limits = limits.max_color_attachments
 limit_of MaxComputeWorkgroupsPerDimension limits = limits.max_compute_workgroups_per_dimension
+limit_of MaxColorAttachmentBytesPerSample limits = unwrap_or limits.max_color_attachment_bytes_per_sample 32
 
 -- whether a limit is an alignment: of those the smaller value is the better one, of any other limit the greater
 abbrev pub is_alignment : LimitName → Bool
@@ -113,6 +118,10 @@ granted name (Some asked) = better name (limit_of name default_limits) asked.1
 abbrev pub limit_for : LimitName → List (LimitName × ℕ) → ℕ
 limit_for name values = granted name (find (λ asked. same_limit asked.0 name) values)
 
+-- what a device has of a limit that is no bound where it is not asked for
+abbrev pub bound_for : LimitName → List (LimitName × ℕ) → Option ℕ
+bound_for name values = option_map (λ asked. limit_for name values) (find (λ asked. same_limit asked.0 name) values)
+
 -- the limits of a device for all that is asked
 abbrev pub limits_for : List (LimitName × ℕ) → Limits
 limits_for values = record {
@@ -138,6 +147,7 @@ limits_for values = record {
   max_vertex_buffer_array_stride = limit_for MaxVertexBufferArrayStride values;
   max_buffer_size = limit_for MaxBufferSize values;
   max_color_attachments = limit_for MaxColorAttachments values;
+  max_color_attachment_bytes_per_sample = bound_for MaxColorAttachmentBytesPerSample values;
   max_compute_workgroups_per_dimension = limit_for MaxComputeWorkgroupsPerDimension values;
   max_queries_per_set = default_limits.max_queries_per_set;
 }
@@ -145,6 +155,10 @@ limits_for values = record {
 -- the limits of a device for all that is asked, where one can ask for it
 abbrev pub limits_asked : List (LimitName × ℕ) → Option Limits
 limits_asked values = if list_all can_ask values then Some (limits_for values) else None
+
+-- whether a limit is asked for
+abbrev pub is_asked : LimitName → List (LimitName × ℕ) → Bool
+is_asked name values = list_any (λ asked. same_limit asked.0 name) values
 
 -- a value is no better than the best
 abbrev pub IsNoBetter : LimitName → ℕ → Type 0

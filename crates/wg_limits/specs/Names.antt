@@ -2,7 +2,7 @@
 use Rattle.std.specs.Prelude.{ℕ, Bool, List, [], ◌∷◌, bytes_eq, codes, Option}
 use Rattle.std.specs.List.{find}
 use Rattle.wg_limits.specs.declared.names.LimitName.{LimitName}
-use Rattle.wg_limits.specs.declared.names.LimitName.TheVariants.{MaxTextureDimension1d, MaxTextureDimension2d, MaxTextureDimension3d, MaxTextureArrayLayers, MaxBindGroups, MaxBindingsPerBindGroup, MaxDynamicUniformBuffersPerPipelineLayout, MaxDynamicStorageBuffersPerPipelineLayout, MaxSampledTexturesPerShaderStage, MaxSamplersPerShaderStage, MaxStorageBuffersPerShaderStage, MaxStorageTexturesPerShaderStage, MaxUniformBuffersPerShaderStage, MaxUniformBufferBindingSize, MaxStorageBufferBindingSize, MinUniformBufferOffsetAlignment, MinStorageBufferOffsetAlignment, MaxVertexBuffers, MaxVertexAttributes, MaxVertexBufferArrayStride, MaxBufferSize, MaxColorAttachments, MaxComputeWorkgroupsPerDimension}
+use Rattle.wg_limits.specs.declared.names.LimitName.TheVariants.{MaxTextureDimension1d, MaxTextureDimension2d, MaxTextureDimension3d, MaxTextureArrayLayers, MaxBindGroups, MaxBindingsPerBindGroup, MaxDynamicUniformBuffersPerPipelineLayout, MaxDynamicStorageBuffersPerPipelineLayout, MaxSampledTexturesPerShaderStage, MaxSamplersPerShaderStage, MaxStorageBuffersPerShaderStage, MaxStorageTexturesPerShaderStage, MaxUniformBuffersPerShaderStage, MaxUniformBufferBindingSize, MaxStorageBufferBindingSize, MinUniformBufferOffsetAlignment, MinStorageBufferOffsetAlignment, MaxVertexBuffers, MaxVertexAttributes, MaxVertexBufferArrayStride, MaxBufferSize, MaxColorAttachments, MaxComputeWorkgroupsPerDimension, MaxColorAttachmentBytesPerSample}
 
 -- the text of a name
 abbrev pub limit_text : LimitName → List ℕ
@@ -29,6 +29,7 @@ limit_text MaxVertexBufferArrayStride = codes "maxVertexBufferArrayStride"
 limit_text MaxBufferSize = codes "maxBufferSize"
 limit_text MaxColorAttachments = codes "maxColorAttachments"
 limit_text MaxComputeWorkgroupsPerDimension = codes "maxComputeWorkgroupsPerDimension"
+limit_text MaxColorAttachmentBytesPerSample = codes "maxColorAttachmentBytesPerSample"
 
 -- all names, in the order in which callers in C number them
 abbrev pub limit_names : List LimitName
@@ -40,7 +41,7 @@ limit_names =
     MaxUniformBuffersPerShaderStage ∷ MaxUniformBufferBindingSize ∷ MaxStorageBufferBindingSize ∷
     MinUniformBufferOffsetAlignment ∷ MinStorageBufferOffsetAlignment ∷ MaxVertexBuffers ∷
     MaxVertexAttributes ∷ MaxVertexBufferArrayStride ∷ MaxBufferSize ∷
-    MaxColorAttachments ∷ MaxComputeWorkgroupsPerDimension ∷ []
+    MaxColorAttachments ∷ MaxComputeWorkgroupsPerDimension ∷ MaxColorAttachmentBytesPerSample ∷ []
 
 -- the limit that a text names
 unfoldable pub limit_named : List ℕ → Option LimitName

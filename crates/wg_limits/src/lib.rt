@@ -5,6 +5,6 @@ mod asking;
 mod names;
 mod values;
 
-pub use asking::asked;
+pub use asking::{asked, can_ask, is_alignment, no_better};
 pub use names::LimitName;
-pub use values::default_limits;
+pub use values::{default_limits, limit_of};

@@ -29,10 +29,11 @@ pub enum LimitName {
     MaxBufferSize,
     MaxColorAttachments,
     MaxComputeWorkgroupsPerDimension,
+    MaxColorAttachmentBytesPerSample,
 }
 
 /// All of them.
-const NAMES: [LimitName; 23] = [
+const NAMES: [LimitName; 24] = [
     LimitName::MaxTextureDimension1d,
     LimitName::MaxTextureDimension2d,
     LimitName::MaxTextureDimension3d,
@@ -56,6 +57,7 @@ const NAMES: [LimitName; 23] = [
     LimitName::MaxBufferSize,
     LimitName::MaxColorAttachments,
     LimitName::MaxComputeWorkgroupsPerDimension,
+    LimitName::MaxColorAttachmentBytesPerSample,
 ];
 
 impl LimitName {
@@ -96,6 +98,7 @@ impl LimitName {
             LimitName::MaxBufferSize => "maxBufferSize",
             LimitName::MaxColorAttachments => "maxColorAttachments",
             LimitName::MaxComputeWorkgroupsPerDimension => "maxComputeWorkgroupsPerDimension",
+            LimitName::MaxColorAttachmentBytesPerSample => "maxColorAttachmentBytesPerSample",
         }
     }
 

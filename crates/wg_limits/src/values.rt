@@ -5,7 +5,8 @@ ghost use Rattle.wg_limits.specs.Limits.{default_limits, best_limits, limit_of};
 use crate::names::LimitName;
 use wg_types::limits::Limits;
 
-/// The limits of a device that is opened without asking for any (WebGPU, "Limits").
+/// The limits of a device that is opened without asking for any (WebGPU, "Limits"). The bytes of a sample of all
+/// color attachments are not bounded by it.
 pub fn default_limits() -> Limits
     ensures { result ≡ default_limits }
 {
@@ -32,6 +33,7 @@ pub fn default_limits() -> Limits
         max_vertex_buffer_array_stride: 2048,
         max_buffer_size: 268435456,
         max_color_attachments: 8,
+        max_color_attachment_bytes_per_sample: None,
         max_compute_workgroups_per_dimension: 65535,
         max_queries_per_set: 4096,
     }
@@ -59,11 +61,12 @@ pub fn best_limits() -> Limits
         max_vertex_attributes: 32,
         max_vertex_buffer_array_stride: 8192,
         max_buffer_size: 4294967296,
+        max_color_attachment_bytes_per_sample: Some(128),
         ..default_limits()
     }
 }
 
-/// A limit by its name.
+/// A limit by its name. A device without a bound of the bytes of a sample tells the default of WebGPU.
 pub fn limit_of(name: LimitName, limits: &Limits) -> u64
     ensures { result ≡ limit_of name limits.now }
 {
@@ -108,6 +111,9 @@ pub fn limit_of(name: LimitName, limits: &Limits) -> u64
         LimitName::MaxColorAttachments => u64::from(limits.max_color_attachments),
         LimitName::MaxComputeWorkgroupsPerDimension => u64::from(
             limits.max_compute_workgroups_per_dimension,
+        ),
+        LimitName::MaxColorAttachmentBytesPerSample => u64::from(
+            limits.max_color_attachment_bytes_per_sample.unwrap_or(32),
         ),
     }
 }

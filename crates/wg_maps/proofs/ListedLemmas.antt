@@ -4,7 +4,7 @@ use Rattle.std.specs.List.Sorted.{IsNonDecreasingBy, IsPartitionPoint}
 use Rattle.std.specs.Map.{lookup}
 use Rattle.std.specs.Ordering.{nat_cmp}
 use Rattle.std.specs.FinMap as table
-use Rattle.std.specs.FinMap.{FinMap, nat_cmp-IsAntisymmetric, same_map}
+use Rattle.std.specs.FinMap.{nat_cmp-IsAntisymmetric, same_map}
 use Rattle.std.specs.Cmp.{nat_cmp_total}
 use Rattle.std.proofs.lemmas.Bool.{eqb-true, eqb-false, ne_eqb}
 use Rattle.std.proofs.lemmas.Bool.Decides.{nat_tests}
@@ -17,9 +17,9 @@ use Rattle.wg_types.specs.declared.mappings.PendingMap.{PendingMap}
 use Rattle.wg_maps.specs.Mappings.{MappedValue, Mappings, pending_of, maps_of, without, with_map, is_latest, is_due, still_pending, with_due, promises}
 use Rattle.wg_maps.specs.Waits.{promise_of, IsEachOnce, IsKept, has_promise, is_waiting, arranged, waiting, IsUnlike, AreUnlike, IsListed, IsWithin, IsTidied, IsInserted, starts_later, IsSettling}
 use Rattle.wg_maps.proofs.TableLemmas.{get_inserted}
-use Rattle.wg_maps.proofs.PendingLemmas.{found_with, without_none}
+use Rattle.wg_maps.proofs.PendingLemmas.{without_none}
 use Rattle.wg_maps.proofs.KeptLemmas.{kept_with, kept_without}
-use Rattle.wg_maps.proofs.ArrangedLemmas.{Rises, arranged_rises, all_arranged, length_with, length_arranged, filter_out, filter_arranged, arranged_insert, unlike_filter, are_unlike_filter, are_unlike_take, are_unlike_insert, unlike_latest, unlike_newer}
+use Rattle.wg_maps.proofs.ArrangedLemmas.{Rises, arranged_rises, all_arranged, length_with, length_arranged, filter_out, filter_arranged, arranged_insert, are_unlike_filter, are_unlike_take, are_unlike_insert, unlike_latest}
 
 -- filters
 
@@ -318,14 +318,6 @@ due_with completed (w ∷ ws) wait mapped due none = by_place (nat_lt wait.promi
 pub settling_none : (completed : ℕ) (known : List (ℕ × ℕ)) (listed : List PendingMap) (mapped : MappedValue) → IsKept (waiting known listed) known → IsListed listed
     → IsSettling completed (waiting known listed) mapped known listed mapped
 settling_none completed known listed mapped kept is = record { kept = kept; are_listed = is; still = refl; due = refl; room = omega arith }
-
-pub settling_room : (completed : ℕ) (first : List PendingMap) (start : MappedValue) (known : List (ℕ × ℕ)) (wait : PendingMap) (rest : List PendingMap) (mapped : MappedValue)
-    → length first ≤ start.spare → IsSettling completed first start known (wait ∷ rest) mapped → is_waiting known wait ≡ true → 0 < mapped.spare
-settling_room completed first start known wait rest mapped room s is =
-    let e = ap length (waiting_first known wait rest is) in
-    let f = length_with (waiting known rest) wait in
-    let g = s.room in
-    omega (arith, e, f, g, room)
 
 pub settling_past : (completed : ℕ) (first : List PendingMap) (start : MappedValue) (known : List (ℕ × ℕ)) (wait : PendingMap) (rest : List PendingMap) (mapped : MappedValue)
     → is_waiting known wait ≡ false → IsSettling completed first start known (wait ∷ rest) mapped → IsSettling completed first start known rest mapped

@@ -4,11 +4,12 @@
 use Rattle.std.specs.Prelude.{ℕ, ◌+◌, ◌==◌, nat_le, nat_lt, Bool, true, false, not, ◌&&◌, ◌||◌, List, [], ◌∷◌, ◌++◌, map, Option, Some, None, is_some, unwrap_or, option_map, length, if◌then◌else◌}
 use Rattle.std.specs.List.{list_all, list_any, flat_map}
 use Rattle.std.specs.Option.{option_map_or, option_to_list}
-use Rattle.wg_rules.specs.declared.TheConstants.{PASS_COLORS_ARE_WITHIN_LIMIT, PASS_HAS_ATTACHMENT, COLOR_VIEWS_ARE_RENDERABLE, DEPTH_VIEW_IS_RENDERABLE, DEPTH_OPERATIONS_FIT_FORMAT, ATTACHMENTS_AGREE_IN_EXTENT_AND_SAMPLES, NOTHING_IS_ATTACHED_TWICE, RESOLVE_VIEWS_FIT_COLORS, DEPTH_SLICES_FIT_VIEWS}
+use Rattle.wg_rules.specs.declared.TheConstants.{PASS_COLORS_ARE_WITHIN_LIMIT, PASS_HAS_ATTACHMENT, COLOR_VIEWS_ARE_RENDERABLE, DEPTH_VIEW_IS_RENDERABLE, DEPTH_OPERATIONS_FIT_FORMAT, ATTACHMENTS_AGREE_IN_EXTENT_AND_SAMPLES, NOTHING_IS_ATTACHED_TWICE, RESOLVE_VIEWS_FIT_COLORS, DEPTH_SLICES_FIT_VIEWS, DEPTH_CLEAR_VALUE_IS_IN_RANGE, SAMPLE_BYTES_ARE_WITHIN_LIMIT}
 use Rattle.wg_types.specs.Handles.{HandleValue}
 use Rattle.wg_types.specs.Commands.{Command, render_begun}
 use Rattle.wg_types.specs.Formats.{row, same_format}
 use Rattle.wg_types.specs.Textures.{width, height, depth}
+use Rattle.wg_types.specs.declared.formats.Format.{Format}
 use Rattle.wg_types.specs.declared.handles.Info.{Info}
 use Rattle.wg_types.specs.declared.handles.Info.TheVariants as info
 use Rattle.wg_trace.specs.declared.parts.Aspect.{Aspect}
@@ -25,6 +26,7 @@ use Rattle.wg_types.specs.declared.render.ColorTargetOf.{ColorTargetOf}
 use Rattle.wg_types.specs.declared.render.DepthTargetOf.{DepthTargetOf}
 use Rattle.wg_types.specs.declared.render.RenderBeginOf.{RenderBeginOf}
 use Rattle.wg_types.specs.declared.render.TargetInfo.{TargetInfo}
+use Rattle.wg_types.specs.declared.limits.CommandLimits.{CommandLimits}
 use Rattle.wg_rows.specs.Runs.{Cells, Bytes, Layers, Slices, Queries}
 use Rattle.wg_rows.specs.Uses.{Usages, AccessKind, Read, Write, Both, Drop, ReadDrop}
 use Rattle.wg_model.specs.Rules.{Rule}
@@ -34,6 +36,7 @@ use Rattle.wg_model.specs.Formats.{is_color, has_depth, has_stencil, named_aspec
 use Rattle.wg_model.specs.Textures.{render_attachment, extent}
 use Rattle.wg_model.specs.Subresources.{views_meet, view_cells}
 use Rattle.wg_model.specs.Making.{no_view}
+use Rattle.wg_model.specs.SampleBytes.{sample_fits}
 use Rattle.wg_model.specs.Touches.{Touch}
 
 -- the attachments with which a command over handles begins a render pass
@@ -156,6 +159,12 @@ has_all_aspects view =
 abbrev pub depth_attachment_fits : ViewInfo → Bool
 depth_attachment_fits view = is_renderable view && (is_flat view.dim && (not (is_color view.texture_info.format) && has_all_aspects view))
 
+-- whether what is attached is cleared as its pass begins
+abbrev pub is_cleared : Option LoadOp → Bool
+is_cleared None = false
+is_cleared (Some Load) = false
+is_cleared (Some Clear) = true
+
 -- whether load and store of an aspect are given exactly where they are wanted
 abbrev pub ops_fit : Bool → Option LoadOp → Option StoreOp → Bool
 ops_fit wanted load store = same_bool (is_some load) wanted && same_bool (is_some store) wanted
@@ -165,6 +174,15 @@ abbrev pub depth_ops_fit : DepthTarget → Bool
 depth_ops_fit target =
     ops_fit (has_depth (row (depth_view target).texture_info.format).aspects && not target.depth_read_only) target.depth_load target.depth_store
     && ops_fit (has_stencil (row (depth_view target).texture_info.format).aspects && not target.stencil_read_only) target.stencil_load target.stencil_store
+
+-- whether a value to which depth is cleared is given, and is at most 1, where 1 stands as 65536
+abbrev pub clear_value_fits : Option ℕ → Bool
+clear_value_fits None = false
+clear_value_fits (Some value) = nat_le value 65536
+
+-- whether depth is not cleared, or to a value in range
+abbrev pub depth_clear_fits : DepthTarget → Bool
+depth_clear_fits target = not (is_cleared target.depth_load) || clear_value_fits target.depth_clear
 
 -- the width of a view: that of its first mip level
 abbrev pub view_width : ViewInfo → ℕ
@@ -215,6 +233,10 @@ resolves_to view target =
 abbrev pub resolve_fits : ColorTarget → Bool
 resolve_fits target = option_map_or (λ (resolve : HandleValue). resolves_to (color_view target) (attachment_of resolve)) target.resolve true
 
+-- the formats of the color attachments of a pass, of which some may be left out
+abbrev pub colors_drawn : RenderBegin → List (Option Format)
+colors_drawn begin = map (option_map (λ (target : ColorTarget). (color_view target).texture_info.format)) begin.colors
+
 -- how many color attachments there may be
 abbrev pub most_colors : ℕ
 most_colors = 8
@@ -223,20 +245,23 @@ most_colors = 8
 -- each color view can be drawn to, is 2d, 2d-array or 3d, and has a color format; 308 a slice is given exactly where a color
 -- view is 3d, and is below the depth of its mip level; 303 the depth view can be drawn to, is 2d or 2d-array, and has a depth or
 -- stencil format and all its aspects; 304 load and store of depth and of stencil are given exactly where the format has it and
--- it is not only read; 305 extents and counts of samples are equal; 306 no cell is attached twice, resolve targets included; 307
--- what is resolved goes to a view that will do.
-unfoldable pub begin_rules : RenderBegin → List Rule
-begin_rules begin =
+-- it is not only read; 418 depth that is cleared is cleared to a value that is given and in range; 305 extents and counts of
+-- samples are equal; 306 no cell is attached twice, resolve targets included; 307 what is resolved goes to a view that will do; 411
+-- a sample of all colors takes no more bytes than may be, where that limit was asked for.
+unfoldable pub begin_rules : CommandLimits → RenderBegin → List Rule
+begin_rules limits begin =
     (PASS_COLORS_ARE_WITHIN_LIMIT, nat_le (length begin.colors) most_colors)
     ∷ ((PASS_HAS_ATTACHMENT, list_any (λ (color : Option ColorTarget). is_some color) begin.colors || is_some begin.depth)
     ∷ ((COLOR_VIEWS_ARE_RENDERABLE, list_all (λ (target : ColorTarget). color_fits (color_view target)) (colors_given begin))
     ∷ ((DEPTH_SLICES_FIT_VIEWS, list_all (λ (target : ColorTarget). slice_fits (color_attached target)) (colors_given begin))
     ∷ ((DEPTH_VIEW_IS_RENDERABLE, option_map_or (λ (target : DepthTarget). depth_attachment_fits (depth_view target)) begin.depth true)
     ∷ ((DEPTH_OPERATIONS_FIT_FORMAT, option_map_or depth_ops_fit begin.depth true)
+    ∷ ((DEPTH_CLEAR_VALUE_IS_IN_RANGE, option_map_or depth_clear_fits begin.depth true)
     ∷ ((ATTACHMENTS_AGREE_IN_EXTENT_AND_SAMPLES, all_alike (drawn_views begin))
     ∷ ((NOTHING_IS_ATTACHED_TWICE, attached_are_apart (attached_views begin))
     ∷ ((RESOLVE_VIEWS_FIT_COLORS, list_all resolve_fits (colors_given begin))
-    ∷ []))))))))
+    ∷ ((SAMPLE_BYTES_ARE_WITHIN_LIMIT, sample_fits limits.max_color_attachment_bytes_per_sample (colors_drawn begin))
+    ∷ []))))))))))
 
 -- the begin of a pass with no attachments
 abbrev pub no_begin : RenderBegin
@@ -247,8 +272,8 @@ abbrev pub begin_of : Command → RenderBegin
 begin_of command = unwrap_or (render_begun command) no_begin
 
 -- the rules of the attachments with which a command begins a render pass, or none where it begins none
-abbrev pub begun_rules : Command → List Rule
-begun_rules command = option_map_or begin_rules (render_begun command) []
+abbrev pub begun_rules : CommandLimits → Command → List Rule
+begun_rules limits command = option_map_or (begin_rules limits) (render_begun command) []
 
 -- the count of samples to which a pass draws: that of the first view, which all of them have
 abbrev pub samples_of : List ViewInfo → ℕ
@@ -263,7 +288,7 @@ extent_of (view ∷ views) = (view_width view, view_height view)
 -- to what a pass draws: the formats and samples of its attachments, and whether depth and stencil are only read
 abbrev pub targets_of : RenderBegin → TargetInfo
 targets_of begin = record {
-  colors = map (option_map (λ (target : ColorTarget). (color_view target).texture_info.format)) begin.colors;
+  colors = colors_drawn begin;
   depth = option_map (λ (target : DepthTarget). (depth_view target).texture_info.format) begin.depth;
   samples = samples_of (drawn_views begin);
   depth_read_only = option_map_or (λ (target : DepthTarget). target.depth_read_only) begin.depth false;

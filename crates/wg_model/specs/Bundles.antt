@@ -3,7 +3,7 @@
 use Rattle.std.specs.Prelude.{ℕ, ◌==◌, nat_le, Bool, true, not, ◌&&◌, ◌||◌, List, [], ◌∷◌, ◌++◌, map, Option, Some, None, is_some, length, if◌then◌else◌}
 use Rattle.std.specs.List.{list_all, list_any, flat_map, filter}
 use Rattle.std.specs.Option.{option_map_or}
-use Rattle.wg_rules.specs.declared.TheConstants.{BUNDLE_FORMATS_FIT, BUNDLE_HAS_TARGET, BUNDLE_SAMPLES_ARE_ALLOWED}
+use Rattle.wg_rules.specs.declared.TheConstants.{BUNDLE_FORMATS_FIT, BUNDLE_HAS_TARGET, BUNDLE_SAMPLES_ARE_ALLOWED, SAMPLE_BYTES_ARE_WITHIN_LIMIT}
 use Rattle.wg_types.specs.Handles.{HandleValue}
 use Rattle.wg_types.specs.Commands.{Command, named}
 use Rattle.wg_types.specs.declared.commands.On.{On}
@@ -26,11 +26,12 @@ use Rattle.wg_rows.specs.Sets.{UseRow}
 use Rattle.wg_model.specs.Rules.{Rule}
 use Rattle.wg_model.specs.Formats.{is_color}
 use Rattle.wg_model.specs.RenderPipelines.{passes, is_multisampled, samples_fit}
+use Rattle.wg_model.specs.SampleBytes.{sample_fits}
 use Rattle.wg_model.specs.Touches.{Touch, deed_of, input_usage, constant_usage, storage_usage, storage_read_usage}
 
 -- createBundleEncoder (WebGPU, "createRenderBundleEncoder"): 175 there are no more colors than may be, those left out too, all
 -- have color formats, and the depth format has depth or stencil; 176 some color is given, or depth; 177 there are 1 or 4 samples,
--- and with 4 all formats allow that.
+-- and with 4 all formats allow that; 411 a sample of all colors takes no more bytes than may be, where that limit was asked for.
 abbrev pub bundle_target_rules : Limits → TargetInfo → List Rule
 bundle_target_rules limits targets = (
   BUNDLE_FORMATS_FIT,
@@ -39,7 +40,8 @@ bundle_target_rules limits targets = (
 )
     ∷ ((BUNDLE_HAS_TARGET, list_any (λ (color : Option Format). is_some color) targets.colors || is_some targets.depth)
     ∷ ((BUNDLE_SAMPLES_ARE_ALLOWED, samples_fit targets.samples targets.colors (option_map_or is_multisampled targets.depth true))
-    ∷ []))
+    ∷ ((SAMPLE_BYTES_ARE_WITHIN_LIMIT, sample_fits limits.max_color_attachment_bytes_per_sample targets.colors)
+    ∷ [])))
 
 -- what is known of a bundle, if it is one
 abbrev pub bundle_in : Info → Option BundleInfo

@@ -28,7 +28,26 @@ use Rattle.wg_types.specs.declared.groups.PipelineLayoutInfo.{PipelineLayoutInfo
 use Rattle.wg_types.specs.declared.groups.GroupInfo.{GroupInfo}
 use Rattle.wg_types.specs.declared.groups.ComputeInfo.{ComputeInfo}
 use Rattle.wg_types.specs.declared.groups.RenderInfo.{RenderInfo}
-use Rattle.wg_types.specs.declared.render.DepthState.{DepthState}
+use Rattle.wg_types.specs.declared.samplers.Compare.{Compare}
+use Rattle.wg_types.specs.declared.samplers.Compare.TheVariants as compare
+use Rattle.wg_types.specs.declared.fixed.BlendOperation.{BlendOperation}
+use Rattle.wg_types.specs.declared.fixed.BlendOperation.TheVariants as operation
+use Rattle.wg_types.specs.declared.fixed.BlendFactor.{BlendFactor}
+use Rattle.wg_types.specs.declared.fixed.BlendFactor.TheVariants as factor
+use Rattle.wg_types.specs.declared.fixed.BlendComponent.{BlendComponent}
+use Rattle.wg_types.specs.declared.fixed.BlendState.{BlendState}
+use Rattle.wg_types.specs.declared.fixed.Target.{Target}
+use Rattle.wg_types.specs.declared.fixed.StencilOperation.{StencilOperation}
+use Rattle.wg_types.specs.declared.fixed.StencilOperation.TheVariants as stencil
+use Rattle.wg_types.specs.declared.fixed.StencilFace.{StencilFace}
+use Rattle.wg_types.specs.declared.fixed.StencilState.{StencilState}
+use Rattle.wg_types.specs.declared.fixed.StencilState.TheVariants.{Written, Faces}
+use Rattle.wg_types.specs.declared.fixed.DepthState.{DepthState}
+use Rattle.wg_types.specs.declared.fixed.Topology.{Topology}
+use Rattle.wg_types.specs.declared.fixed.Topology.TheVariants as topology
+use Rattle.wg_types.specs.declared.fixed.CullMode.{CullMode}
+use Rattle.wg_types.specs.declared.fixed.CullMode.TheVariants as cull
+use Rattle.wg_types.specs.declared.fixed.PrimitiveState.{PrimitiveState}
 use Rattle.wg_types.specs.declared.render.RenderDesc.{RenderDesc}
 use Rattle.wg_types.specs.declared.vertex.VertexFormat.{VertexFormat}
 use Rattle.wg_types.specs.declared.vertex.VertexFormat.TheVariants as vertex_format
@@ -36,6 +55,8 @@ use Rattle.wg_types.specs.declared.vertex.VertexStep.{VertexStep}
 use Rattle.wg_types.specs.declared.vertex.VertexStep.TheVariants as vertex_step
 use Rattle.wg_types.specs.declared.vertex.VertexAttribute.{VertexAttribute}
 use Rattle.wg_types.specs.declared.vertex.VertexBuffer.{VertexBuffer}
+use Rattle.wg_types.specs.declared.vertex.IndexFormat.{IndexFormat}
+use Rattle.wg_types.specs.declared.vertex.IndexFormat.TheVariants as index
 
 -- whether two truths are the same
 abbrev pub same_bool : Bool → Bool → Bool
@@ -194,18 +215,143 @@ same_attribute a b = vertex_format_number a.format == vertex_format_number b.for
 abbrev pub same_vertex_buffer : VertexBuffer → VertexBuffer → Bool
 same_vertex_buffer a b = a.stride == b.stride && vertex_step_number a.step == vertex_step_number b.step && same_list same_attribute a.attributes b.attributes
 
+-- the place of a format of indexes among both
+abbrev pub index_format_number : IndexFormat → ℕ
+index_format_number index.Uint16 = 0
+index_format_number index.Uint32 = 1
+
+-- whether two formats of indexes are the same
+abbrev pub same_index_format : IndexFormat → IndexFormat → Bool
+same_index_format a b = index_format_number a == index_format_number b
+
+-- the place of a comparison among all
+abbrev pub compare_number : Compare → ℕ
+compare_number compare.Never = 0
+compare_number compare.Less = 1
+compare_number compare.Equal = 2
+compare_number compare.LessEqual = 3
+compare_number compare.Greater = 4
+compare_number compare.NotEqual = 5
+compare_number compare.GreaterEqual = 6
+compare_number compare.Always = 7
+
+-- whether two comparisons are the same
+abbrev pub same_compare : Compare → Compare → Bool
+same_compare a b = compare_number a == compare_number b
+
+-- the place of a blend operation among all
+abbrev pub blend_operation_number : BlendOperation → ℕ
+blend_operation_number operation.Add = 0
+blend_operation_number operation.Subtract = 1
+blend_operation_number operation.ReverseSubtract = 2
+blend_operation_number operation.Min = 3
+blend_operation_number operation.Max = 4
+
+-- the place of a blend factor among all
+abbrev pub blend_factor_number : BlendFactor → ℕ
+blend_factor_number factor.Zero = 0
+blend_factor_number factor.One = 1
+blend_factor_number factor.Src = 2
+blend_factor_number factor.OneMinusSrc = 3
+blend_factor_number factor.SrcAlpha = 4
+blend_factor_number factor.OneMinusSrcAlpha = 5
+blend_factor_number factor.Dst = 6
+blend_factor_number factor.OneMinusDst = 7
+blend_factor_number factor.DstAlpha = 8
+blend_factor_number factor.OneMinusDstAlpha = 9
+blend_factor_number factor.SrcAlphaSaturated = 10
+blend_factor_number factor.Constant = 11
+blend_factor_number factor.OneMinusConstant = 12
+
+-- whether two blend operations are the same
+abbrev pub same_blend_operation : BlendOperation → BlendOperation → Bool
+same_blend_operation a b = blend_operation_number a == blend_operation_number b
+
+-- whether two blend factors are the same
+abbrev pub same_blend_factor : BlendFactor → BlendFactor → Bool
+same_blend_factor a b = blend_factor_number a == blend_factor_number b
+
+-- whether colors, or alphas, are blended alike
+abbrev pub same_blend_component : BlendComponent → BlendComponent → Bool
+same_blend_component a b = same_blend_operation a.operation b.operation && same_blend_factor a.src_factor b.src_factor && same_blend_factor a.dst_factor b.dst_factor
+
+-- whether two targets are blended alike
+abbrev pub same_blend : BlendState → BlendState → Bool
+same_blend a b = same_blend_component a.color b.color && same_blend_component a.alpha b.alpha
+
+-- whether two color targets are the same
+abbrev pub same_target : Target → Target → Bool
+same_target a b = same_format a.format b.format && same_option same_blend a.blend b.blend && a.write_mask == b.write_mask
+
+-- the place of a stencil operation among all
+abbrev pub stencil_operation_number : StencilOperation → ℕ
+stencil_operation_number stencil.Keep = 0
+stencil_operation_number stencil.Zero = 1
+stencil_operation_number stencil.Replace = 2
+stencil_operation_number stencil.Invert = 3
+stencil_operation_number stencil.IncrementClamp = 4
+stencil_operation_number stencil.DecrementClamp = 5
+stencil_operation_number stencil.IncrementWrap = 6
+stencil_operation_number stencil.DecrementWrap = 7
+
+-- whether two stencil operations are the same
+abbrev pub same_stencil_operation : StencilOperation → StencilOperation → Bool
+same_stencil_operation a b = stencil_operation_number a == stencil_operation_number b
+
+-- whether the same is done with the stencil of two faces
+abbrev pub same_face : StencilFace → StencilFace → Bool
+same_face a b =
+    same_compare a.compare b.compare
+    && same_stencil_operation a.fail_op b.fail_op
+    && same_stencil_operation a.depth_fail_op b.depth_fail_op
+    && same_stencil_operation a.pass_op b.pass_op
+
+-- whether two pipelines do the same with the stencil, as they tell it
+abbrev pub same_stencil : StencilState → StencilState → Bool
+same_stencil (Written a) (Written b) = same_bool a b
+same_stencil (Faces front_a back_a mask_a) (Faces front_b back_b mask_b) = same_face front_a front_b && same_face back_a back_b && mask_a == mask_b
+same_stencil _ _ = false
+
 -- whether two pipelines do the same with depth and stencil
 abbrev pub same_depth_state : DepthState → DepthState → Bool
-same_depth_state a b = same_format a.format b.format && same_bool a.depth_write b.depth_write && same_bool a.stencil_write b.stencil_write
+same_depth_state a b =
+    same_format a.format b.format
+    && same_option same_bool a.depth_write b.depth_write
+    && same_option same_compare a.depth_compare b.depth_compare
+    && same_stencil a.stencil b.stencil
+    && same_bool a.bias b.bias
+
+-- the place of a topology among all
+abbrev pub topology_number : Topology → ℕ
+topology_number topology.PointList = 0
+topology_number topology.LineList = 1
+topology_number topology.LineStrip = 2
+topology_number topology.TriangleList = 3
+topology_number topology.TriangleStrip = 4
+
+-- the place of a word for which faces are not drawn
+abbrev pub cull_number : CullMode → ℕ
+cull_number cull.None = 0
+cull_number cull.Front = 1
+cull_number cull.Back = 2
+
+-- whether the vertices of two pipelines make the same
+abbrev pub same_primitive : PrimitiveState → PrimitiveState → Bool
+same_primitive a b =
+    topology_number a.topology == topology_number b.topology
+    && same_option same_index_format a.strip_index_format b.strip_index_format
+    && cull_number a.cull_mode == cull_number b.cull_mode
 
 -- whether two descriptions of render pipelines are the same
 abbrev pub same_render_desc : RenderDesc → RenderDesc → Bool
 same_render_desc a b =
     same_list same_iface_entry a.iface b.iface
-    && same_list same_vertex_buffer a.buffers b.buffers
-    && same_list (same_option same_format) a.targets b.targets
+    && same_list (same_option same_vertex_buffer) a.buffers b.buffers
+    && same_list (same_option same_target) a.targets b.targets
+    && same_primitive a.primitive b.primitive
     && same_option same_depth_state a.depth b.depth
     && a.samples == b.samples
+    && same_bool a.alpha_to_coverage b.alpha_to_coverage
 
 -- whether the same is known of two render pipelines
 abbrev pub same_render : RenderInfo → RenderInfo → Bool

@@ -3,10 +3,11 @@
 use Rattle.std.specs.Prelude.{ℕ, ◌+◌, ◌*◌, ◌%◌, ◌==◌, nat_le, nat_lt, Bool, true, false, not, ◌&&◌, ◌||◌, List, [], ◌∷◌, ◌++◌, Option, Some, None, is_some, is_none, option_and_then, unwrap_or, slice_index_or, if◌then◌else◌}
 use Rattle.std.specs.List.{list_all, flat_map}
 use Rattle.std.specs.Option.{option_map_or, option_map, option_or}
-use Rattle.wg_rules.specs.declared.TheConstants.{PIPELINE_DRAWS_TO_TARGETS, PIPELINE_SPARES_READ_ONLY, VERTEX_BUFFER_HAS_VERTEX, VERTEX_SLOT_IS_WITHIN_LIMIT, VERTEX_OFFSET_IS_ALIGNED, VERTEX_RANGE_FITS_BUFFER, INDEX_BUFFER_HAS_INDEX, INDEX_OFFSET_IS_ALIGNED, INDEX_RANGE_FITS_BUFFER, VERTEX_BUFFERS_ARE_SET, VERTEX_RANGES_SUFFICE, INDEX_BUFFER_IS_SET, INDEX_RANGE_SUFFICES, BUNDLE_TARGETS_ARE_OF_PASS, BUNDLES_SPARE_READ_ONLY, VIEWPORT_SIZE_IS_WITHIN_LIMIT, VIEWPORT_IS_WITHIN_BOUNDS, VIEWPORT_DEPTHS_ARE_IN_ORDER, SCISSOR_FITS_ATTACHMENTS, DRAWS_ARE_WITHIN_MAXIMUM}
+use Rattle.wg_rules.specs.declared.TheConstants.{PIPELINE_DRAWS_TO_TARGETS, PIPELINE_SPARES_READ_ONLY, VERTEX_BUFFER_HAS_VERTEX, VERTEX_SLOT_IS_WITHIN_LIMIT, VERTEX_OFFSET_IS_ALIGNED, VERTEX_RANGE_FITS_BUFFER, INDEX_BUFFER_HAS_INDEX, INDEX_OFFSET_IS_ALIGNED, INDEX_RANGE_FITS_BUFFER, VERTEX_BUFFERS_ARE_SET, VERTEX_RANGES_SUFFICE, INDEX_BUFFER_IS_SET, INDEX_RANGE_SUFFICES, BUNDLE_TARGETS_ARE_OF_PASS, BUNDLES_SPARE_READ_ONLY, VIEWPORT_SIZE_IS_WITHIN_LIMIT, VIEWPORT_IS_WITHIN_BOUNDS, VIEWPORT_DEPTHS_ARE_IN_ORDER, SCISSOR_FITS_ATTACHMENTS, DRAWS_ARE_WITHIN_MAXIMUM, STRIP_INDICES_FIT_PIPELINE}
 use Rattle.wg_types.specs.Handles.{HandleValue}
 use Rattle.wg_types.specs.Formats.{same_format}
 use Rattle.wg_types.specs.Vertex.{index_bytes}
+use Rattle.wg_types.specs.Fixed.{strip_of}
 use Rattle.wg_types.specs.Commands.{Command, bracket, Act, begins, sets, runs, occludes, executes, neither, act}
 use Rattle.wg_types.specs.Commands.{Setting, set_pipeline, set_group, set_vertex_buffer, set_index_buffer, set_viewport, set_scissor, set_unread}
 use Rattle.wg_types.specs.Commands.{Running, dispatch, dispatch_indirect, draw, draw_indexed, draw_indirect, draw_indexed_indirect}
@@ -15,7 +16,8 @@ use Rattle.wg_types.specs.declared.handles.Info.{Info}
 use Rattle.wg_types.specs.declared.handles.Info.TheVariants as info
 use Rattle.wg_types.specs.declared.vertex.IndexFormat.{IndexFormat}
 use Rattle.wg_types.specs.declared.vertex.VertexBuffer.{VertexBuffer}
-use Rattle.wg_types.specs.declared.render.DepthState.{DepthState}
+use Rattle.wg_types.specs.declared.fixed.DepthState.{DepthState}
+use Rattle.wg_types.specs.declared.fixed.CullMode.{CullMode}
 use Rattle.wg_types.specs.declared.render.RenderDesc.{RenderDesc}
 use Rattle.wg_types.specs.declared.render.TargetInfo.{TargetInfo}
 use Rattle.wg_types.specs.declared.render.Viewport.{Viewport}
@@ -26,7 +28,8 @@ use Rattle.wg_types.specs.declared.commands.Bracket.TheVariants as brackets
 use Rattle.wg_trace.specs.declared.steps.StepName.TheVariants as name
 use Rattle.wg_rows.specs.Uses.{Read}
 use Rattle.wg_model.specs.Rules.{Rule}
-use Rattle.wg_model.specs.Equality.{same_option}
+use Rattle.wg_model.specs.Equality.{same_option, same_index_format}
+use Rattle.wg_model.specs.FixedFunction.{target_formats, writes_depth, writes_stencil}
 use Rattle.wg_model.specs.Buffers.{has_usage}
 use Rattle.wg_model.specs.Commands.{debug_rules, buffer_of, size_or_rest}
 use Rattle.wg_model.specs.Touches.{Touch, Doing, bytes_at, input_usage}
@@ -60,13 +63,22 @@ abbrev pub known_pipeline : HandleValue → Option RenderDesc
 known_pipeline handle = if handle.valid then desc_in handle.info else None
 
 -- the vertex buffers of the pipeline that is set
-abbrev pub buffers_in : Option RenderDesc → List VertexBuffer
+abbrev pub buffers_in : Option RenderDesc → List (Option VertexBuffer)
 buffers_in None = []
 buffers_in (Some desc) = desc.buffers
 
 -- the vertex buffers of the render pipeline that is set, if one is
-abbrev pub buffers_wanted : Settings → List VertexBuffer
+abbrev pub buffers_wanted : Settings → List (Option VertexBuffer)
 buffers_wanted set = buffers_in (option_and_then known_pipeline set.pipeline)
+
+-- of what format the indexes of strips are, if that is told, where a pipeline makes strips
+abbrev pub strip_in : Option RenderDesc → Option (Option IndexFormat)
+strip_in None = None
+strip_in (Some desc) = strip_of desc.primitive
+
+-- of what format the indexes of strips are, if that is told, where the pipeline that is set makes strips
+abbrev pub strip_wanted : Settings → Option (Option IndexFormat)
+strip_wanted set = strip_in (option_and_then known_pipeline set.pipeline)
 
 -- the slot for which a setting sets a range as a vertex buffer, with the size of that, or with none where it unsets what is
 -- set there
@@ -291,13 +303,13 @@ same_targets (target ∷ targets) (other ∷ others) = same_option same_format t
 -- whether a pipeline's targets, depth format and samples are those of a pass
 abbrev pub draws_to : TargetInfo → RenderDesc → Bool
 draws_to targets desc =
-    same_targets desc.targets targets.colors
+    same_targets (target_formats desc.targets) targets.colors
     && (same_option same_format (option_map (λ (depth : DepthState). depth.format) desc.depth) targets.depth
     && desc.samples == targets.samples)
 
 -- whether what is only read is not written
-abbrev pub spares : TargetInfo → DepthState → Bool
-spares targets depth = not (targets.depth_read_only && depth.depth_write) && not (targets.stencil_read_only && depth.stencil_write)
+abbrev pub spares : TargetInfo → CullMode → DepthState → Bool
+spares targets culled depth = not (targets.depth_read_only && writes_depth depth) && not (targets.stencil_read_only && writes_stencil culled depth.stencil)
 
 -- the rules of a pipeline that is set: 320 its targets, depth format and samples are those of the pass, where what is left out
 -- at the end of the targets does not count; 321 it writes neither depth nor stencil where the pass only reads that
@@ -305,7 +317,7 @@ abbrev pub pipeline_rules : TargetInfo → Option RenderDesc → List Rule
 pipeline_rules targets None = []
 pipeline_rules targets (Some desc) =
     (PIPELINE_DRAWS_TO_TARGETS, draws_to targets desc)
-    ∷ ((PIPELINE_SPARES_READ_ONLY, option_map_or (spares targets) desc.depth true)
+    ∷ ((PIPELINE_SPARES_READ_ONLY, option_map_or (spares targets desc.primitive.cull_mode) desc.depth true)
     ∷ [])
 
 -- the rules of a pipeline that a command sets, if it sets one
@@ -377,10 +389,11 @@ index_rules buffer format offset size =
     ∷ ((INDEX_RANGE_FITS_BUFFER, nat_le (offset + size) (buffer_of buffer).size)
     ∷ []))
 
--- whether a range is set for each of these vertex buffers, the first of which has this slot
-abbrev pub are_set : List VertexBuffer → List (Option ℕ) → ℕ → Bool
+-- whether a range is set for each of these vertex buffers that is not left out, the first of which has this slot
+abbrev pub are_set : List (Option VertexBuffer) → List (Option ℕ) → ℕ → Bool
 are_set [] ranges slot = true
-are_set (buffer ∷ buffers) ranges slot = is_some (slice_index_or ranges slot None) && are_set buffers ranges (slot + 1)
+are_set (None ∷ buffers) ranges slot = are_set buffers ranges (slot + 1)
+are_set (Some buffer ∷ buffers) ranges slot = is_some (slice_index_or ranges slot None) && are_set buffers ranges (slot + 1)
 
 -- whether so many indexes, from the first on, fit the range of the index buffer
 abbrev pub indices_fit : ℕ → ℕ → Option (IndexFormat × ℕ) → Bool
@@ -400,6 +413,16 @@ draw_rule render vertices instances = (VERTEX_RANGES_SUFFICE, draw_fits (buffers
 abbrev pub index_buffer_rule : RenderSet → Rule
 index_buffer_rule render = (INDEX_BUFFER_IS_SET, is_some render.index)
 
+-- whether the index buffer that is set has the format that strips want, where they are made; where that format is not told, none has
+-- it
+abbrev pub strip_fits : Option (Option IndexFormat) → Option (IndexFormat × ℕ) → Bool
+strip_fits None index = true
+strip_fits (Some wanted) index = option_map_or (λ format. option_map_or (λ (set : IndexFormat × ℕ). same_index_format set.0 format) index false) wanted false
+
+-- rule 419: where the pipeline makes strips, the indexes that are set have the format that it gives for them
+abbrev pub strip_rule : RenderSet → Rule
+strip_rule render = (STRIP_INDICES_FIT_PIPELINE, strip_fits (strip_wanted render.set) render.index)
+
 -- the rules of a draw
 abbrev pub draw_rules : RenderSet → ℕ → ℕ → List Rule
 draw_rules render vertices instances = ready_rules render.set ++ vertex_buffers_rule render ∷ (draw_rule render (Some vertices) instances ∷ [])
@@ -414,9 +437,10 @@ draw_indexed_rules render first indices instances =
     ready_rules render.set
     ++ vertex_buffers_rule render
     ∷ (index_buffer_rule render
+    ∷ (strip_rule render
     ∷ (indices_rule render first indices
     ∷ (draw_rule render None instances
-    ∷ [])))
+    ∷ []))))
 
 -- the rules of a drawIndirect
 abbrev pub draw_indirect_rules : RenderSet → HandleValue → ℕ → List Rule
@@ -425,7 +449,7 @@ draw_indirect_rules render buffer offset = ready_rules render.set ++ (indirect_r
 -- the rules of a drawIndexedIndirect
 abbrev pub draw_indexed_indirect_rules : RenderSet → HandleValue → ℕ → List Rule
 draw_indexed_indirect_rules render buffer offset =
-    ready_rules render.set ++ (indirect_rules buffer offset 20 ++ vertex_buffers_rule render ∷ (index_buffer_rule render ∷ []))
+    ready_rules render.set ++ (indirect_rules buffer offset 20 ++ vertex_buffers_rule render ∷ (index_buffer_rule render ∷ (strip_rule render ∷ [])))
 
 -- a whole number as the numbers of viewports stand: over 65536
 abbrev pub fixed : ℕ → ℕ
@@ -466,8 +490,8 @@ setting_rules limits extent (set_viewport viewport) = viewport_rules limits view
 setting_rules limits extent (set_scissor x y width height) = scissor_rules extent x y width height
 setting_rules limits extent set_unread = []
 
--- the rules of a draw, by what is drawn: of a draw 350 and 351; of a drawIndexed 350, 352, 353 and 351; of a drawIndirect
--- those of its buffer and 350; of a drawIndexedIndirect those of its buffer, 350 and 352
+-- the rules of a draw, by what is drawn: of a draw 350 and 351; of a drawIndexed 350, 352, 419, 353 and 351; of a drawIndirect
+-- those of its buffer and 350; of a drawIndexedIndirect those of its buffer, 350, 352 and 419
 abbrev pub running_rules : RenderSet → Running HandleValue → List Rule
 running_rules render (dispatch x y z) = []
 running_rules render (dispatch_indirect buffer offset) = []

@@ -42,7 +42,7 @@ pub record PassSoFar : Type 0 where
 
 -- the first unmet rule of the begin of a pass: of the objects that it names, and then of a render pass its own
 abbrev pub begun_rule : Maker → Command → Option ℕ
-begun_rule maker begin = option_or (first_unmet (common_rules maker.device (named begin))) (first_unmet (begun_rules begin))
+begun_rule maker begin = option_or (first_unmet (common_rules maker.device (named begin))) (first_unmet (begun_rules maker.limits begin))
 
 -- the first unmet rule of a command of a compute pass, over what is set
 abbrev pub compute_rule : Maker → Settings → Command → Option ℕ
@@ -263,11 +263,14 @@ recorded_touches maker targets earlier = if is_none (bundle_verdict maker target
 
 -- of the limits of a device, those by which commands are judged while they are recorded
 abbrev pub command_limits : Limits → CommandLimits
-command_limits limits = record { max_texture_dimension_2d = limits.max_texture_dimension_2d }
+command_limits limits = record {
+  max_texture_dimension_2d = limits.max_texture_dimension_2d;
+  max_color_attachment_bytes_per_sample = limits.max_color_attachment_bytes_per_sample;
+}
 
 -- the limits of nothing, as of a recording that no recorder made
 abbrev pub no_limits : CommandLimits
-no_limits = record { max_texture_dimension_2d = 0 }
+no_limits = record { max_texture_dimension_2d = 0; max_color_attachment_bytes_per_sample = None }
 
 -- how often the bundle draws that a recording makes: where some rule was unmet, not at all
 abbrev pub recorded_draws : Maker → TargetInfo → List Command → ℕ

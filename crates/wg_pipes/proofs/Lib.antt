@@ -1,1 +1,4 @@
 pub mod Parted
+pub mod SampleBytes
+pub mod StencilChanges
+pub mod TargetFormats

@@ -66,10 +66,6 @@ stops_within a b c x y later h k = record {
   rose = omega (arith, h.rose);
 }
 
--- a failure within a text is one within any text that begins with it
-pub stops_longer : (a b : Printer) (x y : List ℕ) → Stops a b x → Stops a b (x ++ y)
-stops_longer a b x y h = stops_within a b b x y (omega arith) h (appends_none b.taken)
-
 puts_ok : (a b c : Printer) (x y : List ℕ) → Puts a b x → Puts b c y → c.failed ≡ false → (f : Bool) → b.failed ≡ f → Adds a c (x ++ y)
 puts_ok a b c x y h k fine false is = adds_then a b c x y (h.ok is) (k.ok fine)
 puts_ok a b c x y h k fine true is = absurd (true≢false (sym (k.dead is).0 ∙ fine))

@@ -60,20 +60,6 @@ closes items (Some step) uses accesses lines u a =
     ∙ (ap (λ (us : List (PartRun × Usages)). items ++ (item.Step (record { place = step.0; name = step.1; uses = uses ++ us; accesses = accesses ++ [] }) ∷ items_of lines)) (sym u)
     ∙ ap (λ (as_ : List (Cells × AccessKind)). items ++ (item.Step (record { place = step.0; name = step.1; uses = uses ++ uses_in lines; accesses = accesses ++ as_ }) ∷ items_of lines)) (sym a))
 
--- the items with the step that was open, which is whole now
-pub closed : (items : List Item) (step : StepPlace × StepName) (uses : List (PartRun × Usages)) (accesses : List (Cells × AccessKind)) (lines : List Line)
-    → (items ++ item.Step (record { place = step.0; name = step.1; uses = uses; accesses = accesses }) ∷ []) ++ items_of lines ≡ (items ++ flow (Some step) uses accesses []) ++ items_of lines
-closed items step uses accesses lines =
-    ap (λ (us : List (PartRun × Usages)). (items ++ item.Step (record { place = step.0; name = step.1; uses = us; accesses = accesses }) ∷ []) ++ items_of lines) (sym (append-nil uses))
-    ∙ ap (λ (as_ : List (Cells × AccessKind)). (items ++ item.Step (record { place = step.0; name = step.1; uses = uses ++ []; accesses = as_ }) ∷ []) ++ items_of lines) (sym (append-nil accesses))
-
--- one use more, and one access more
-pub use_more : (items : List Item) (open_ : Option (StepPlace × StepName)) (uses : List (PartRun × Usages)) (accesses : List (Cells × AccessKind)) (part : PartRun) (set : Usages) (lines : List Line)
-    → items ++ flow open_ (uses ++ (part, set) ∷ []) accesses lines ≡ items ++ flow open_ uses accesses (Use part set ∷ lines)
-use_more items None uses accesses part set lines = refl
-use_more items (Some step) uses accesses part set lines =
-    ap (λ (us : List (PartRun × Usages)). items ++ (item.Step (record { place = step.0; name = step.1; uses = us; accesses = accesses ++ accesses_in lines }) ∷ items_of lines)) (append_assoc uses ((part, set) ∷ []) (uses_in lines))
-
 front_more : (draft draft2 : TraceDraft) (line : Line) (r : Result (List Line) (ℕ × ℕ)) → ((lines : List Line) → items_with draft2 lines ≡ items_with draft (line ∷ lines)) → read_with draft2 r ≡ read_with draft (onto line r)
 front_more draft draft2 line (Ok lines) h = ap Ok (h lines)
 front_more draft draft2 line (Err e) h = refl

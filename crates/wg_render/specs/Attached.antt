@@ -2,6 +2,7 @@
 use Rattle.std.specs.Prelude.{◌≡◌, Bool, ◌&&◌, List, Option, ◌++◌, map, option_map}
 use Rattle.std.specs.List.{flat_map}
 use Rattle.std.specs.Option.{option_to_list}
+use Rattle.wg_types.specs.declared.formats.Format.{Format}
 use Rattle.wg_types.specs.declared.textures.ViewInfo.{ViewInfo}
 use Rattle.wg_model.specs.Attachments.{ColorTarget, DepthTarget, Attached, attached_whole, color_view, depth_view, target_views, attached_are_apart}
 
@@ -12,6 +13,10 @@ given_of colors = flat_map (λ (color : Option ColorTarget). option_to_list colo
 -- the view of a depth attachment, if there is one
 abbrev pub depth_views : Option DepthTarget → List ViewInfo
 depth_views depth = option_to_list (option_map depth_view depth)
+
+-- the formats of color attachments, of which some may be left out
+abbrev pub formats_in : List (Option ColorTarget) → List (Option Format)
+formats_in colors = map (option_map (λ (target : ColorTarget). (color_view target).texture_info.format)) colors
 
 -- the views to which a pass draws
 abbrev pub drawn_in : List (Option ColorTarget) → Option DepthTarget → List ViewInfo

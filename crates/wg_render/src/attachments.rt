@@ -3,23 +3,28 @@ ghost use Rattle.std.specs.Prelude.{◌≡◌, ◌||◌, true, is_some};
 ghost use Rattle.std.specs.List.{list_all, list_any};
 ghost use Rattle.std.specs.Option.{option_map_or};
 ghost use Rattle.wg_model.specs.Rules.{first_unmet};
-ghost use Rattle.wg_model.specs.Attachments.{color_view, color_attached, depth_view, target_views, is_flat, is_deep, is_renderable, color_fits, slice_fits, slices_meet, attached_meet, has_all_aspects, depth_attachment_fits, ops_fit, depth_ops_fit, same_extent, are_alike, all_alike, attached_are_apart, resolves_to, resolve_fits, begin_rules};
+ghost use Rattle.wg_model.specs.Attachments.{color_view, color_attached, depth_view, target_views, is_flat, is_deep, is_renderable, color_fits, slice_fits, slices_meet, attached_meet, has_all_aspects, depth_attachment_fits, ops_fit, depth_ops_fit, same_extent, are_alike, all_alike, attached_are_apart, resolves_to, resolve_fits, is_cleared, clear_value_fits, depth_clear_fits, begin_rules};
 ghost use Rattle.wg_render.specs.Attached.{given_of, drawn_in, attached_in, AreApartBefore};
 
+use crate::samples::samples_fit;
 use crate::views::{ColorTarget, DepthTarget, RenderBegin, view_of};
 use wg_formats::{extent, has_named, is_color, named_aspects};
 use wg_rules::{
     ATTACHMENTS_AGREE_IN_EXTENT_AND_SAMPLES, COLOR_VIEWS_ARE_RENDERABLE,
-    DEPTH_OPERATIONS_FIT_FORMAT, DEPTH_SLICES_FIT_VIEWS, DEPTH_VIEW_IS_RENDERABLE,
-    NOTHING_IS_ATTACHED_TWICE, PASS_COLORS_ARE_WITHIN_LIMIT, PASS_HAS_ATTACHMENT,
-    RESOLVE_VIEWS_FIT_COLORS,
+    DEPTH_CLEAR_VALUE_IS_IN_RANGE, DEPTH_OPERATIONS_FIT_FORMAT, DEPTH_SLICES_FIT_VIEWS,
+    DEPTH_VIEW_IS_RENDERABLE, NOTHING_IS_ATTACHED_TWICE, PASS_COLORS_ARE_WITHIN_LIMIT,
+    PASS_HAS_ATTACHMENT, RESOLVE_VIEWS_FIT_COLORS, SAMPLE_BYTES_ARE_WITHIN_LIMIT,
 };
 use wg_subres::views_meet;
+use wg_types::limits::CommandLimits;
 use wg_types::render::{LoadOp, StoreOp};
 use wg_types::textures::{AspectWord, ViewDim, ViewInfo};
 
 /// How many color attachments there may be.
 const MOST_COLORS: usize = 8;
+
+/// The most to which depth is cleared, 1, as the values stand: over 65536.
+const ONE: u64 = 65536;
 
 /// The usage bit that a texture needs to be drawn to.
 const RENDER_ATTACHMENT: u32 = 16;
@@ -105,6 +110,33 @@ fn depth_ops_fit(target: &DepthTarget) -> bool
     let stencil = has_named(AspectWord::StencilOnly, format) && !target.stencil_read_only;
     ops_fit(depth, target.depth_load, target.depth_store)
         && ops_fit(stencil, target.stencil_load, target.stencil_store)
+}
+
+/// Whether what is attached is cleared as its pass begins.
+fn is_cleared(load: Option<LoadOp>) -> bool
+    ensures { result ≡ is_cleared load }
+{
+    match load {
+        Some(LoadOp::Clear) => true,
+        Some(LoadOp::Load) | None => false,
+    }
+}
+
+/// Whether a value to which depth is cleared is given, and is in range.
+fn clear_value_fits(value: Option<u64>) -> bool
+    ensures { result ≡ clear_value_fits value }
+{
+    match value {
+        Some(value) => value <= ONE,
+        None => false,
+    }
+}
+
+/// Whether depth is not cleared, or to a value in range.
+fn depth_clear_fits(target: &DepthTarget) -> bool
+    ensures { result ≡ depth_clear_fits target.now }
+{
+    !is_cleared(target.depth_load) || clear_value_fits(target.depth_clear)
 }
 
 /// Whether the mip levels of two views are equally wide and high.
@@ -332,11 +364,22 @@ fn ops_given_fit(depth: &Option<DepthTarget>) -> bool
     }
 }
 
-/// The number of the first unmet rule of beginRenderPass, but for those on the objects that it names
-/// (WebGPU, "Render Pass Encoder Creation" and "Render Pass Attachments"); none where the pass may begin.
+/// Whether the depth of a depth attachment is not cleared, or to a value in range, if there is one.
+fn clear_given_fits(depth: &Option<DepthTarget>) -> bool
+    ensures { result ≡ option_map_or depth_clear_fits depth.now true }
+{
+    match depth {
+        Some(target) => depth_clear_fits(target),
+        None => true,
+    }
+}
+
+/// The number of the first unmet rule of beginRenderPass on a device with these limits, but for those on the
+/// objects that it names (WebGPU, "Render Pass Encoder Creation" and "Render Pass Attachments"); none where the
+/// pass may begin.
 #[tactic(auto, unfolding(wg_model::specs::Attachments::begin_rules))]
-pub fn check_begin(begin: &RenderBegin) -> Option<u16>
-    ensures { result ≡ first_unmet (begin_rules begin.now) }
+pub fn check_begin(limits: &CommandLimits, begin: &RenderBegin) -> Option<u16>
+    ensures { result ≡ first_unmet (begin_rules limits.now begin.now) }
 {
     let colors = begin.colors.as_slice();
     if colors.len() > MOST_COLORS {
@@ -357,6 +400,9 @@ pub fn check_begin(begin: &RenderBegin) -> Option<u16>
     if !ops_given_fit(&begin.depth) {
         return Some(DEPTH_OPERATIONS_FIT_FORMAT);
     }
+    if !clear_given_fits(&begin.depth) {
+        return Some(DEPTH_CLEAR_VALUE_IS_IN_RANGE);
+    }
     if !all_alike(colors, &begin.depth) {
         return Some(ATTACHMENTS_AGREE_IN_EXTENT_AND_SAMPLES);
     }
@@ -365,6 +411,9 @@ pub fn check_begin(begin: &RenderBegin) -> Option<u16>
     }
     if !resolves_fit(colors) {
         return Some(RESOLVE_VIEWS_FIT_COLORS);
+    }
+    if !samples_fit(limits.max_color_attachment_bytes_per_sample, colors) {
+        return Some(SAMPLE_BYTES_ARE_WITHIN_LIMIT);
     }
     None
 }

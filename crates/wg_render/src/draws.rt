@@ -2,7 +2,8 @@
 ghost use Rattle.std.specs.Prelude.{◌≡◌, ◌+◌, ◌%◌, ◌==◌, None, nat_le, is_some, slice_index_or};
 ghost use Rattle.wg_types.specs.Vertex.{index_bytes};
 ghost use Rattle.wg_model.specs.Rules.{first_unmet};
-ghost use Rattle.wg_model.specs.Render.{vertex_rules, no_vertex_rules, given_vertex_rules, index_rules, are_set, indices_fit};
+ghost use Rattle.wg_model.specs.Equality.{same_index_format};
+ghost use Rattle.wg_model.specs.Render.{vertex_rules, no_vertex_rules, given_vertex_rules, index_rules, are_set, indices_fit, strip_fits};
 
 use wg_formats::{buffer_of, size_or_rest};
 use wg_rules::{
@@ -114,11 +115,12 @@ fn is_set(ranges: &[Option<u64>], slot: usize) -> bool
     slot < ranges.len() && ranges[slot].is_some()
 }
 
-/// Whether a range is set for each of these vertex buffers, by slot.
-pub fn are_set(buffers: &[VertexBuffer], ranges: &[Option<u64>]) -> bool
+/// Whether a range is set for each of these vertex buffers that is not left out, by slot.
+pub fn are_set(buffers: &[Option<VertexBuffer>], ranges: &[Option<u64>]) -> bool
     ensures { result ≡ are_set buffers.now ranges.now 0 }
 {
-    for (slot, _) in buffers.iter().enumerate() {
+    for (slot, buffer) in buffers.iter().enumerate() {
+        let Some(_) = buffer else { continue };
         if !is_set(ranges, slot) {
             return false;
         }
@@ -133,5 +135,29 @@ pub fn indices_fit(first: u32, indices: u32, index: Option<(IndexFormat, u64)>) 
     match index {
         Some((format, size)) => (u64::from(first) + u64::from(indices)) * format.bytes() <= size,
         None => false,
+    }
+}
+
+/// Whether two formats of indexes are the same.
+fn same_index_format(a: IndexFormat, b: IndexFormat) -> bool
+    ensures { result ≡ same_index_format a b }
+{
+    match (a, b) {
+        (IndexFormat::Uint16, IndexFormat::Uint16) => true,
+        (IndexFormat::Uint32, IndexFormat::Uint32) => true,
+        (IndexFormat::Uint16, IndexFormat::Uint32) => false,
+        (IndexFormat::Uint32, IndexFormat::Uint16) => false,
+    }
+}
+
+/// Whether the index buffer that is set has the format that a pipeline gives for the indexes of strips, where
+/// it makes strips; where that format is not told, none has it (WebGPU, "drawIndexed()").
+pub fn strip_fits(strip: Option<Option<IndexFormat>>, index: Option<(IndexFormat, u64)>) -> bool
+    ensures { result ≡ strip_fits strip index }
+{
+    let Some(wanted) = strip else { return true };
+    match (wanted, index) {
+        (Some(wanted), Some((format, _))) => same_index_format(format, wanted),
+        (Some(_), None) | (None, _) => false,
     }
 }

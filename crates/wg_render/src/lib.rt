@@ -8,6 +8,7 @@ mod draws;
 mod given;
 mod pipelines;
 mod queries;
+mod samples;
 mod state;
 mod targets;
 mod touches;

@@ -1,18 +1,22 @@
 //! Render pipelines as they are set.
 ghost use Rattle.std.specs.Prelude.{◌≡◌, Some, option_copied};
 ghost use Rattle.std.specs.Option.{option_map};
-ghost use Rattle.wg_types.specs.declared.render.DepthState.{DepthState};
+ghost use Rattle.wg_types.specs.declared.fixed.DepthState.{DepthState};
+ghost use Rattle.wg_types.specs.declared.fixed.Target.{Target};
 ghost use Rattle.wg_types.specs.Formats.{same_format};
 ghost use Rattle.wg_model.specs.Rules.{first_unmet};
 ghost use Rattle.wg_model.specs.Equality.{same_option};
-ghost use Rattle.wg_model.specs.Render.{desc_in, known_pipeline, buffers_wanted, none_given, same_targets, draws_to, spares, pipeline_rules, pipeline_given_rules};
+ghost use Rattle.wg_model.specs.FixedFunction.{target_formats};
+ghost use Rattle.wg_model.specs.Render.{desc_in, known_pipeline, buffers_wanted, strip_wanted, none_given, same_targets, draws_to, spares, pipeline_rules, pipeline_given_rules};
 
 use wg_compute::Settings;
+use wg_pipes::{writes_depth, writes_stencil};
 use wg_rules::{PIPELINE_DRAWS_TO_TARGETS, PIPELINE_SPARES_READ_ONLY};
+use wg_types::fixed::{CullMode, DepthState, Target};
 use wg_types::formats::Format;
 use wg_types::handles::{Handle, Info};
-use wg_types::render::{DepthState, RenderDesc, TargetInfo};
-use wg_types::vertex::VertexBuffer;
+use wg_types::render::{RenderDesc, TargetInfo};
+use wg_types::vertex::{IndexFormat, VertexBuffer};
 
 /// What is known of a render pipeline, if it is one.
 fn desc_in(info: &Info) -> Option<&RenderDesc>
@@ -34,8 +38,8 @@ fn known_pipeline(handle: &Handle) -> Option<&RenderDesc>
     desc_in(handle.info())
 }
 
-/// The vertex buffers of the pipeline that is set.
-pub fn buffers_wanted(set: &Settings) -> &[VertexBuffer]
+/// The vertex buffers of the pipeline that is set, of which some may be left out.
+pub fn buffers_wanted(set: &Settings) -> &[Option<VertexBuffer>]
     ensures { result.now ≡ buffers_wanted set.now }
 {
     let Some(pipeline) = set.pipeline() else {
@@ -44,6 +48,16 @@ pub fn buffers_wanted(set: &Settings) -> &[VertexBuffer]
     match known_pipeline(pipeline) {
         Some(desc) => desc.buffers.as_slice(),
         None => &[],
+    }
+}
+
+/// Of what format the indexes of strips are, if that is told, where the pipeline that is set makes strips.
+pub fn strip_wanted(set: &Settings) -> Option<Option<IndexFormat>>
+    ensures { result ≡ strip_wanted set.now }
+{
+    match known_pipeline(set.pipeline()?) {
+        Some(desc) => desc.primitive.strip(),
+        None => None,
     }
 }
 
@@ -83,6 +97,45 @@ pub fn same_targets(targets: &[Option<Format>], others: &[Option<Format>]) -> bo
     none_given(rest)
 }
 
+/// The format of a target of a pipeline, if it is not left out.
+fn target_format(target: Option<Target>) -> Option<Format>
+    ensures { result ≡ option_map (λ (given : Target). given.format) target }
+{
+    match target {
+        Some(given) => Some(given.format),
+        None => None,
+    }
+}
+
+/// Whether all targets of a pipeline are left out.
+fn no_target(targets: &[Option<Target>]) -> bool
+    ensures { result ≡ none_given (target_formats targets.now) }
+{
+    for target in targets {
+        let Some(_) = target else { continue };
+        return false;
+    }
+    true
+}
+
+/// Whether targets of a pipeline have these formats, where what is left out at the end does not count.
+#[tactic(auto, using(crate::proofs::SameTargets::same_as_none))]
+fn have_formats(targets: &[Option<Target>], others: &[Option<Format>]) -> bool
+    ensures { result ≡ same_targets (target_formats targets.now) others.now }
+{
+    let mut rest = others;
+    for (i, target) in targets.iter().enumerate() {
+        let [other, behind @ ..] = rest else {
+            return no_target(&targets[i..]);
+        };
+        if !same_target(target_format(*target), *other) {
+            return false;
+        }
+        rest = behind;
+    }
+    none_given(rest)
+}
+
 /// The format of depth and stencil that a pipeline draws to, if it does.
 fn depth_format(depth: Option<DepthState>) -> Option<Format>
     ensures { result ≡ option_map (λ (state : DepthState). state.format) depth }
@@ -97,17 +150,17 @@ fn depth_format(depth: Option<DepthState>) -> Option<Format>
 fn draws_to(targets: &TargetInfo, desc: &RenderDesc) -> bool
     ensures { result ≡ draws_to targets.now desc.now }
 {
-    same_targets(desc.targets.as_slice(), targets.colors.as_slice())
+    have_formats(desc.targets.as_slice(), targets.colors.as_slice())
         && same_target(depth_format(desc.depth), targets.depth)
         && desc.samples == targets.samples
 }
 
 /// Whether what a pass only reads is not written.
-fn spares(targets: &TargetInfo, depth: DepthState) -> bool
-    ensures { result ≡ spares targets.now depth }
+fn spares(targets: &TargetInfo, culled: CullMode, depth: &DepthState) -> bool
+    ensures { result ≡ spares targets.now culled depth.now }
 {
-    !(targets.depth_read_only && depth.depth_write)
-        && !(targets.stencil_read_only && depth.stencil_write)
+    !(targets.depth_read_only && writes_depth(depth))
+        && !(targets.stencil_read_only && writes_stencil(culled, &depth.stencil))
 }
 
 /// The first unmet rule of a pipeline that is set in a pass.
@@ -117,8 +170,8 @@ fn check_desc(targets: &TargetInfo, desc: &RenderDesc) -> Option<u16>
     if !draws_to(targets, desc) {
         return Some(PIPELINE_DRAWS_TO_TARGETS);
     }
-    if let Some(depth) = desc.depth {
-        if !spares(targets, depth) {
+    if let Some(depth) = &desc.depth {
+        if !spares(targets, desc.primitive.cull_mode, depth) {
             return Some(PIPELINE_SPARES_READ_ONLY);
         }
     }

@@ -6,14 +6,14 @@ ghost use Rattle.wg_model.specs.Rules.{first_unmet};
 ghost use Rattle.wg_types.specs.declared.commands.CommandOf.TheVariants.{BeginOcclusionQuery};
 ghost use Rattle.wg_model.specs.Vertex.{draw_fits};
 ghost use Rattle.wg_model.specs.Queries.{occlusion_call, occlusion_rules};
-ghost use Rattle.wg_model.specs.Render.{buffers_wanted, are_set, draw_rules, draw_indexed_rules, draw_indirect_rules, draw_indexed_indirect_rules, drawing_rules, render_rules};
+ghost use Rattle.wg_model.specs.Render.{buffers_wanted, are_set, strip_wanted, strip_fits, draw_rules, draw_indexed_rules, draw_indirect_rules, draw_indexed_indirect_rules, drawing_rules, render_rules};
 ghost use Rattle.wg_compute.specs.After.{slots_after, emptied};
 ghost use Rattle.wg_render.specs.After.{render_after};
 
 use crate::bundles::check_bundles;
-use crate::draws::{MOST_SLOTS, are_set, check_given_vertex, check_index, indices_fit};
+use crate::draws::{MOST_SLOTS, are_set, check_given_vertex, check_index, indices_fit, strip_fits};
 use crate::given::{index_given, vertex_given};
-use crate::pipelines::{buffers_wanted, check_pipeline};
+use crate::pipelines::{buffers_wanted, check_pipeline, strip_wanted};
 use crate::queries::{check_pass_end, count_given, set_of_pass};
 use crate::targets::{extent_of, targets_of, targets_touches};
 use crate::touches::{DRAW_BYTES, DRAW_INDEXED_BYTES, command_touches, query_written};
@@ -27,7 +27,8 @@ use wg_compute::{
 use wg_formats::size_or_rest;
 use wg_queries::Occlusion;
 use wg_rules::{
-    INDEX_BUFFER_IS_SET, INDEX_RANGE_SUFFICES, VERTEX_BUFFERS_ARE_SET, VERTEX_RANGES_SUFFICE,
+    INDEX_BUFFER_IS_SET, INDEX_RANGE_SUFFICES, STRIP_INDICES_FIT_PIPELINE, VERTEX_BUFFERS_ARE_SET,
+    VERTEX_RANGES_SUFFICE,
 };
 use wg_types::NoMemory;
 use wg_types::commands::Command;
@@ -131,11 +132,18 @@ impl RenderState {
         self.touches.as_slice()
     }
 
-    /// Whether each vertex buffer of the pipeline is set.
+    /// Whether each vertex buffer of the pipeline that is not left out is set.
     fn buffers_are_set(&self) -> bool
         ensures { result ≡ are_set (buffers_wanted self.now.set) self.now.ranges 0 }
     {
         are_set(buffers_wanted(&self.set), &self.ranges)
+    }
+
+    /// Whether the index buffer that is set has the format that the pipeline wants, if it makes strips.
+    fn strip_fits(&self) -> bool
+        ensures { result ≡ strip_fits (strip_wanted self.now.set) self.now.index }
+    {
+        strip_fits(strip_wanted(&self.set), self.index)
     }
 
     /// Whether so many vertices and instances fit the ranges of the vertex buffers.
@@ -188,6 +196,9 @@ impl RenderState {
         if self.index.is_none() {
             return Some(INDEX_BUFFER_IS_SET);
         }
+        if !self.strip_fits() {
+            return Some(STRIP_INDICES_FIT_PIPELINE);
+        }
         if !indices_fit(first_index, indices, self.index) {
             return Some(INDEX_RANGE_SUFFICES);
         }
@@ -229,6 +240,9 @@ impl RenderState {
         }
         if self.index.is_none() {
             return Some(INDEX_BUFFER_IS_SET);
+        }
+        if !self.strip_fits() {
+            return Some(STRIP_INDICES_FIT_PIPELINE);
         }
         None
     }

@@ -3,7 +3,7 @@ ghost use Rattle.std.specs.Prelude.{◌≡◌, ◌++◌, false, map, option_map,
 ghost use Rattle.std.specs.List.{flat_map};
 ghost use Rattle.std.specs.Option.{option_map_or};
 ghost use Rattle.wg_model.specs.Attachments.{drawn_views, color_view, depth_view, view_width, view_height, extent_of, samples_of, targets_of, handle_cells, sliced, attach_kind, attached, resolve_touches, color_touches, aspect_how, depth_how, cells_aspect, depth_touch, depth_touches, targets_touches};
-ghost use Rattle.wg_render.specs.Attached.{drawn_in};
+ghost use Rattle.wg_render.specs.Attached.{formats_in, drawn_in};
 
 use crate::views::{ColorTarget, DepthTarget, RenderBegin, attached_view, view_of};
 use std::alloc::Global;
@@ -20,7 +20,7 @@ use wg_types::textures::ViewInfo;
 use wg_types::usages::Usages;
 
 /// The format of a color attachment, if there is one.
-fn color_format(color: &Option<ColorTarget>) -> Option<Format>
+pub fn color_format(color: &Option<ColorTarget>) -> Option<Format>
     ensures { result ≡ option_map (λ target. (color_view target).texture_info.format) color.now }
 {
     match color {
@@ -34,7 +34,7 @@ fn color_formats(
     alloc: Global,
     colors: &[Option<ColorTarget>],
 ) -> Result<Items<Option<Format>>, NoMemory>
-    ensures { IfOk result (λ formats. formats ≡ map (option_map (λ target. (color_view target).texture_info.format)) colors.now) }
+    ensures { IfOk result (λ formats. formats ≡ formats_in colors.now) }
 {
     let mut formats = Items::new(alloc);
     for color in colors {

@@ -323,3 +323,33 @@ pub const VIEWPORT_DEPTHS_ARE_IN_ORDER: u16 = 402;
 pub const SCISSOR_FITS_ATTACHMENTS: u16 = 403;
 /// Of end, on a render pass.
 pub const DRAWS_ARE_WITHIN_MAXIMUM: u16 = 404;
+/// Of createSampler.
+pub const LEVELS_OF_DETAIL_ARE_IN_ORDER: u16 = 405;
+/// Of createSampler.
+pub const ANISOTROPY_FITS_FILTERS: u16 = 406;
+/// Of createRenderPipeline.
+pub const STRIP_INDEX_FORMAT_IS_OF_STRIPS: u16 = 407;
+/// Of createRenderPipeline.
+pub const BLENDED_TARGETS_MAY_BLEND: u16 = 408;
+/// Of createRenderPipeline.
+pub const LEAST_AND_GREATEST_ARE_OF_FACTORS_ONE: u16 = 409;
+/// Of createRenderPipeline.
+pub const WRITE_MASKS_ARE_KNOWN: u16 = 410;
+/// Of createRenderPipeline, createBundleEncoder and beginRenderPass.
+pub const SAMPLE_BYTES_ARE_WITHIN_LIMIT: u16 = 411;
+/// Of createRenderPipeline.
+pub const COMPARED_DEPTH_IS_IN_FORMAT: u16 = 412;
+/// Of createRenderPipeline.
+pub const STENCIL_OF_FACES_IS_IN_FORMAT: u16 = 413;
+/// Of createRenderPipeline.
+pub const DEPTH_WRITE_IS_GIVEN: u16 = 414;
+/// Of createRenderPipeline.
+pub const DEPTH_COMPARE_IS_GIVEN: u16 = 415;
+/// Of createRenderPipeline.
+pub const DEPTH_BIAS_IS_OF_TRIANGLES: u16 = 416;
+/// Of createRenderPipeline.
+pub const ALPHA_TO_COVERAGE_FITS_TARGETS: u16 = 417;
+/// Of beginRenderPass.
+pub const DEPTH_CLEAR_VALUE_IS_IN_RANGE: u16 = 418;
+/// Of drawIndexed and drawIndexedIndirect.
+pub const STRIP_INDICES_FIT_PIPELINE: u16 = 419;

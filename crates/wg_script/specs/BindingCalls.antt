@@ -1,29 +1,16 @@
--- The calls on samplers, layouts, bind groups and compute pipelines, and the layout that a pipeline gives: for each its
--- keys, and what each holds, in the order in which they are read.
+-- The calls on layouts, bind groups and compute pipelines, and the layout that a pipeline gives: for each its keys, and what
+-- each holds, in the order in which they are read.
 use Rattle.std.specs.Prelude.{ℕ, List, bytes_eq, codes, if◌then◌else◌, Option, Some, None, option_and_then, Result, Ok, Err}
 use Rattle.serde_json.specs.Data.{Data}
 use Rattle.serde_json.specs.Find.{as_str}
-use Rattle.wg_types.specs.declared.bindings.SamplerKind.TheVariants.{Filtering}
-use Rattle.wg_types.specs.declared.requests.RequestOf.TheVariants.{CreateSampler, CreateBindGroupLayout, CreatePipelineLayout, CreateBindGroup, CreateComputePipeline, GetBindGroupLayout}
+use Rattle.wg_types.specs.declared.requests.RequestOf.TheVariants.{CreateBindGroupLayout, CreatePipelineLayout, CreateBindGroup, CreateComputePipeline, GetBindGroupLayout}
 use Rattle.wg_script.specs.Values.{whole_at, most_short, name_at}
 use Rattle.wg_script.specs.Lists.{list_at, list_or_empty, null_or, name_item}
-use Rattle.wg_script.specs.Words.{word_or}
-use Rattle.wg_script.specs.BindingWords.{sampler_words}
 use Rattle.wg_script.specs.BindingEntries.{layout_entry_of, iface_entry_of, group_entry_of}
 use Rattle.wg_script.specs.CallOf.{Call}
 use Rattle.wg_script.specs.Calling.{making}
 use Rattle.wg_script.specs.Readers.{Reader, gives, need, may, all_of, ◌▹◌, read_by}
 use Rattle.wg_script.specs.Labels.{made_keys}
-
--- createSampler
-abbrev pub create_sampler_keys : Reader Call
-create_sampler_keys = gives (λ kind made. making (CreateSampler kind) made)
-    ▹ may (codes "kind") (word_or sampler_words Filtering)
-    ▹ all_of made_keys
-
--- the reader of a createSampler
-unfoldable pub create_sampler_of : Data → Result Call ℕ
-create_sampler_of d = read_by create_sampler_keys d
 
 -- createBindGroupLayout
 abbrev pub create_group_layout_keys : Reader Call

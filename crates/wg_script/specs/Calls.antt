@@ -10,7 +10,8 @@ use Rattle.wg_script.specs.Words.{word_at}
 use Rattle.wg_script.specs.Readers.{Reader, gives, need, may, all_of, ◌▹◌, read_by}
 use Rattle.wg_script.specs.Labels.{label_if, made_keys}
 use Rattle.wg_script.specs.TextureCalls.{create_texture_of, create_view_of, write_texture_of, copy_buffer_to_texture_of, copy_texture_to_buffer_of, copy_texture_to_texture_of}
-use Rattle.wg_script.specs.BindingCalls.{create_sampler_of, create_group_layout_of, create_pipeline_layout_of, create_group_of, create_compute_of, get_group_layout_of}
+use Rattle.wg_script.specs.SamplerCalls.{create_sampler_of}
+use Rattle.wg_script.specs.BindingCalls.{create_group_layout_of, create_pipeline_layout_of, create_group_of, create_compute_of, get_group_layout_of}
 use Rattle.wg_script.specs.PassCalls.{bare_of, begin_compute_pass_of, end_of, set_pipeline_of, set_bind_group_of, dispatch_of, dispatch_indirect_of}
 use Rattle.wg_script.specs.RenderCalls.{create_render_of, begin_render_pass_of, set_vertex_buffer_of, set_index_buffer_of, set_viewport_of, set_scissor_rect_of, set_blend_constant_of, set_stencil_reference_of, draw_of, draw_indexed_of, draw_indirect_of, draw_indexed_indirect_of}
 use Rattle.wg_script.specs.QueryCalls.{create_queries_of, resolve_queries_of, begin_occlusion_of, end_occlusion_of}

@@ -12,7 +12,8 @@ use Rattle.wg_script.specs.RenderWords.{index_format_words}
 use Rattle.wg_script.specs.BindingEntries.{staged_entry_of}
 use Rattle.wg_script.specs.BindingCalls.{layout_at}
 use Rattle.wg_script.specs.PassCalls.{bare_of, indirect_of}
-use Rattle.wg_script.specs.RenderEntries.{vertex_buffer_of, format_item, depth_state_of, color_target_of, depth_target_of}
+use Rattle.wg_script.specs.RenderEntries.{vertex_buffer_of, color_target_of, depth_target_of}
+use Rattle.wg_script.specs.FixedFunction.{target_of, fixed_keys}
 use Rattle.wg_script.specs.CallOf.{Call}
 use Rattle.wg_script.specs.Calling.{recording, beginning, making}
 use Rattle.wg_script.specs.Readers.{Reader, gives, need, may, all_of, ◌▹◌, read_by}
@@ -20,15 +21,23 @@ use Rattle.wg_script.specs.Labels.{made_keys}
 
 -- ---- render pipelines
 
--- createRenderPipeline: a target that is null is left out
+-- createRenderPipeline: a vertex buffer or a target that is null is left out
 abbrev pub create_render_keys : Reader Call
-create_render_keys = gives (λ layout iface buffers targets depth samples made. making (CreateRenderPipeline layout (record { iface = iface; buffers = buffers; targets = targets; depth = depth; samples = samples })) made)
+create_render_keys =
+    gives (λ fixed layout iface buffers targets made. making (CreateRenderPipeline layout (record {
+      iface = iface;
+      buffers = buffers;
+      targets = targets;
+      primitive = fixed.primitive;
+      depth = fixed.depth;
+      samples = fixed.samples;
+      alpha_to_coverage = fixed.alpha_to_coverage;
+    })) made)
+    ▹ all_of fixed_keys
     ▹ need (codes "layout") layout_at
     ▹ may (codes "iface") (list_or_empty staged_entry_of)
-    ▹ may (codes "buffers") (list_or_empty vertex_buffer_of)
-    ▹ may (codes "targets") (list_or_empty (null_or format_item))
-    ▹ may (codes "depth") (item_if depth_state_of)
-    ▹ may (codes "samples") (whole_or most_short 1)
+    ▹ may (codes "buffers") (list_or_empty (null_or vertex_buffer_of))
+    ▹ may (codes "targets") (list_or_empty (null_or target_of))
     ▹ all_of made_keys
 
 -- the reader of a createRenderPipeline

@@ -1,35 +1,21 @@
-//! Reads the calls on samplers, layouts, bind groups and compute pipelines, and the one that gets a layout of
-//! a pipeline: a function for each, with its keys.
+//! Reads the calls on layouts, bind groups and compute pipelines, and the one that gets a layout of a pipeline: a
+//! function for each, with its keys.
 ghost use Rattle.serde_json.specs.Find.{get};
 ghost use Rattle.wg_json.specs.View.{view};
 ghost use Rattle.wg_script.specs.Giving.{Gives};
-ghost use Rattle.wg_script.specs.BindingCalls.{create_sampler_of, create_group_layout_of, create_pipeline_layout_of, create_group_of, layout_at, create_compute_of, get_group_layout_of};
+ghost use Rattle.wg_script.specs.BindingCalls.{create_group_layout_of, create_pipeline_layout_of, create_group_of, layout_at, create_compute_of, get_group_layout_of};
 
-use crate::binding_words::SAMPLERS;
 use crate::calling::making;
 use crate::calls::Call;
 use crate::labels::made_in;
 use crate::lists::{list_at, list_or_empty};
 use crate::name::Name;
 use crate::values::{Refusal, check_keys, name_at, reading, short_at};
-use crate::words::word_or;
 use std::alloc::Global;
 use wg_json::Value;
-use wg_types::bindings::SamplerKind;
 use wg_types::groups::Interface;
 use wg_types::requests::RequestOf;
 use wg_types::shared::Shared;
-
-/// Reads `createSampler`.
-#[tactic(auto, unfolding(crate::specs::BindingCalls::create_sampler_of))]
-pub fn create_sampler(alloc: Global, call: &Value<'_>) -> Result<Call, Refusal>
-    ensures { Gives result (create_sampler_of (view call.now)) }
-{
-    reading!(call:
-        may kind = word_or("kind", &SAMPLERS, SamplerKind::Filtering);
-        make made = made_in(alloc);
-        => making(RequestOf::CreateSampler { kind }, made))
-}
 
 /// Reads `createBindGroupLayout`.
 #[tactic(auto, unfolding(crate::specs::BindingCalls::create_group_layout_of))]

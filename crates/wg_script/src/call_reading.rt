@@ -9,7 +9,7 @@ ghost use Rattle.wg_script.specs.Calls.{call_of, call_as, create_buffer_of, crea
 
 use crate::binding_calls::{
     create_bind_group, create_bind_group_layout, create_compute_pipeline, create_pipeline_layout,
-    create_sampler, get_bind_group_layout,
+    get_bind_group_layout,
 };
 use crate::bundle_calls::{create_bundle_encoder, execute_bundles, finish_bundle};
 use crate::calling::{asking, making, recording};
@@ -29,6 +29,7 @@ use crate::render_calls::{
     draw_indirect, set_blend_constant, set_index_buffer, set_scissor_rect, set_stencil_reference,
     set_vertex_buffer, set_viewport,
 };
+use crate::sampler_calls::create_sampler;
 use crate::texture_calls::{
     copy_buffer_to_texture, copy_texture_to_buffer, copy_texture_to_texture, create_texture,
     create_view, write_texture,

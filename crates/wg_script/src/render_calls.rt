@@ -7,6 +7,7 @@ use crate::binding_calls::layout_at;
 use crate::binding_entries::staged_or_empty;
 use crate::calling::{beginning, making, recording};
 use crate::calls::Call;
+use crate::fixed_function::fixed_in;
 use crate::labels::made_in;
 use crate::lists::{item_if, item_or_null, list_at, list_or_empty};
 use crate::pass_calls::{IndirectCall, bare, indirect};
@@ -29,16 +30,23 @@ pub fn create_render_pipeline(alloc: Global, call: &Value<'_>) -> Result<Call, R
     ensures { Gives result (create_render_of (view call.now)) }
 {
     reading!(call:
+        part fixed = fixed_in("depth", "samples", "primitive", "mask", "alphaToCoverage");
         need layout = layout_at(alloc, "layout");
         may iface = staged_or_empty(alloc, "iface");
         may buffers = list_or_empty(alloc, "buffers");
         may targets = list_or_empty(alloc, "targets");
-        may depth = item_if(alloc, "depth");
-        may samples = short_or("samples", 1);
         make made = made_in(alloc);
         => making(RequestOf::CreateRenderPipeline {
             layout,
-            desc: Shared::new(alloc, RenderDesc { iface, buffers, targets, depth, samples })?,
+            desc: Shared::new(alloc, RenderDesc {
+                iface,
+                buffers,
+                targets,
+                primitive: fixed.primitive,
+                depth: fixed.depth,
+                samples: fixed.samples,
+                alpha_to_coverage: fixed.alpha_to_coverage,
+            })?,
         }, made))
 }
 

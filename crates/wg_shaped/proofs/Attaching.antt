@@ -5,6 +5,7 @@ use Rattle.std.specs.Option.{option_map, option_map_or, unwrap_or}
 use Rattle.std.proofs.Common.{◌≡◌, ℕ, List, [], ◌∷◌, ◌++◌, map, Bool, true, false, not, Option, Some, None, ap, refl, sym, ◌∙◌, subst, append-nil, append_assoc, true≢false}
 use Rattle.std.proofs.lemmas.Bool.{and_parts, or_parts, or_left, or_right}
 use Rattle.wg_types.specs.Handles.{HandleValue}
+use Rattle.wg_types.specs.declared.limits.CommandLimits.{CommandLimits}
 use Rattle.wg_types.specs.declared.textures.ViewInfo.{ViewInfo}
 use Rattle.wg_trace.specs.declared.parts.Aspect.{Aspect}
 use Rattle.wg_trace.specs.declared.usages.Usages.{Usages}
@@ -176,8 +177,8 @@ colors_along (Some target ∷ colors) more touches fair color slice along =
       more = resolve_along target.resolve (flat_map target_views (given colors)) more (flat_map color_touches colors) touches (colors_along colors more touches fair.1 colored.1 cut.1 along);
     }
 
-pub targets_agree : (begin : RenderBegin) → EachRow IsFairColor begin.colors → AreMet (begin_rules begin) → AllAgree (targets_touches begin)
+pub targets_agree : (limits : CommandLimits) (begin : RenderBegin) → EachRow IsFairColor begin.colors → AreMet (begin_rules limits begin) → AllAgree (targets_touches begin)
 unfolding targets_touches begin_rules
-targets_agree begin fair met =
+targets_agree limits begin fair met =
     along_agree (attached_views begin) (flat_map color_touches begin.colors ++ depth_touches begin.depth)
-    (colors_along begin.colors (depth_views begin.depth) (depth_touches begin.depth) fair met.1.1.0 met.1.1.1.0 (depth_along begin.depth)) met.1.1.1.1.1.1.1.0
+    (colors_along begin.colors (depth_views begin.depth) (depth_touches begin.depth) fair met.1.1.0 met.1.1.1.0 (depth_along begin.depth)) met.1.1.1.1.1.1.1.1.0

@@ -90,15 +90,15 @@ render_agree : (render : RenderSet) (b : Bracket) → AreTold render.touches →
 render_agree render brackets.EndPass told att clear = (scope_agrees render.touches clear.0 told att, tt)
 render_agree render _ told att clear = tt
 
-begun_met : (maker : Maker) (begin : RenderBegin) → begun_rule maker (BeginRenderPass begin) ≡ None → AreMet (begin_rules begin)
-begun_met maker begin e = all_met (begin_rules begin) (ap is_none (or_none (first_unmet (common_rules maker.device (named (BeginRenderPass begin)))) (first_unmet (begun_rules (BeginRenderPass begin))) e).1)
+begun_met : (maker : Maker) (begin : RenderBegin) → begun_rule maker (BeginRenderPass begin) ≡ None → AreMet (begin_rules maker.limits begin)
+begun_met maker begin e = all_met (begin_rules maker.limits begin) (ap is_none (or_none (first_unmet (common_rules maker.device (named (BeginRenderPass begin)))) (first_unmet (begun_rules maker.limits (BeginRenderPass begin))) e).1)
 
 render_does_agree : (maker : Maker) (begin : RenderBegin) (earlier : List Command) (command : Command) → IsFair (BeginRenderPass begin) → AreFair earlier → begun_rule maker (BeginRenderPass begin) ≡ None
     → AreClear (map scope_in (option_to_list (render_does (render_set begin earlier) command))) → EachRow AgreeDoing (option_to_list (render_does (render_set begin earlier) command))
 unfolding render_does
 render_does_agree maker begin earlier command fair fairs e clear =
     render_agree (render_set begin earlier) (bracket command) (over_told (set_of_pass begin.queries) (targets_touches begin) earlier fairs (targets_told begin))
-    (over_attached (set_of_pass begin.queries) (targets_touches begin) earlier fairs (agree_attached (targets_touches begin) (targets_agree begin fair (begun_met maker begin e)))) clear
+    (over_attached (set_of_pass begin.queries) (targets_touches begin) earlier fairs (agree_attached (targets_touches begin) (targets_agree maker.limits begin fair (begun_met maker begin e)))) clear
 
 pass_agree : (maker : Maker) (begin : Command) (earlier : List Command) (command : Command) → IsFair begin → AreFair earlier → begun_rule maker begin ≡ None
     → AreClear (map scope_in (option_to_list (pass_does begin earlier command))) → EachRow AgreeDoing (option_to_list (pass_does begin earlier command))

@@ -210,7 +210,7 @@ unfolding targets_touches begin_rules
 targets_small maker begin small e =
     let views = each_parts (λ (object : HandleValue × Wanted). IsSmallHandle object.0) (targets_named begin) (maybe_wanted wanted.Queries begin.queries) small in
     let two = each_parts (λ (object : HandleValue × Wanted). IsSmallHandle object.0) (flat_map color_named begin.colors) (depth_named begin.depth) views.0 in
-    let met : AreMet (begin_rules begin) = none_met (begin_rules begin) (or_none (first_unmet (common_rules maker.device (named (BeginRenderPass begin)))) (first_unmet (begun_rules (BeginRenderPass begin))) e).1 in
+    let met : AreMet (begin_rules maker.limits begin) = none_met (begin_rules maker.limits begin) (or_none (first_unmet (common_rules maker.device (named (BeginRenderPass begin)))) (first_unmet (begun_rules maker.limits (BeginRenderPass begin))) e).1 in
     both_touched (flat_map color_touches begin.colors) (depth_touches begin.depth) (colors_small begin.colors two.0 met.1.1.1.0) (depth_small begin.depth two.1)
 
 set_small : (maker : Maker) (begin : RenderBegin) → IsSmallCommand (BeginRenderPass begin) → begun_rule maker (BeginRenderPass begin) ≡ None → AreSmallQueries (set_of_pass begin.queries)
@@ -218,7 +218,7 @@ set_small maker begin small e =
     let views = each_parts (λ (object : HandleValue × Wanted). IsSmallHandle object.0) (targets_named begin) (maybe_wanted wanted.Queries begin.queries) small in
     let valid =
     each_parts (λ (object : HandleValue × Wanted). object.0.valid ≡ true) (targets_named begin) (maybe_wanted wanted.Queries begin.queries)
-    (all_valid maker.device (named (BeginRenderPass begin)) (none_met (common_rules maker.device (named (BeginRenderPass begin))) (or_none (first_unmet (common_rules maker.device (named (BeginRenderPass begin)))) (first_unmet (begun_rules (BeginRenderPass begin))) e).0)) in
+    (all_valid maker.device (named (BeginRenderPass begin)) (none_met (common_rules maker.device (named (BeginRenderPass begin))) (or_none (first_unmet (common_rules maker.device (named (BeginRenderPass begin)))) (first_unmet (begun_rules maker.limits (BeginRenderPass begin))) e).0)) in
     by_queries begin.queries views.1 valid.1
   where
     by_queries : (o : Option HandleValue) → AreSmallNamed (maybe_wanted wanted.Queries o) → AreValid (maybe_wanted wanted.Queries o) → AreSmallQueries (set_of_pass o)

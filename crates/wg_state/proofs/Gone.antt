@@ -1,5 +1,5 @@
 -- What an event names was not let go, and what was let go is dead.
-use Rattle.std.proofs.Common.{◌≡◌, ℕ, suc, zero, ◌-◌, ◌<◌, Bool, true, false, not, ◌&&◌, ◌||◌, nat_lt, List, [], ◌∷◌, ◌++◌, length, map, get_or, Option, Some, None, is_some, is_none, option_map, option_and_then, option_to_list, unwrap_or, inl, inr, refl, sym, ap, ap₂, ◌∙◌, arith, if◌then◌else◌, true≢false}
+use Rattle.std.proofs.Common.{◌≡◌, ℕ, ◌-◌, ◌<◌, Bool, true, false, not, ◌&&◌, ◌||◌, nat_lt, List, [], ◌∷◌, ◌++◌, length, map, Option, Some, None, is_some, is_none, option_map, option_and_then, option_to_list, unwrap_or, inl, inr, refl, sym, ap, ap₂, ◌∙◌, arith, if◌then◌else◌, true≢false}
 use Rattle.std.specs.Option.{option_map_or}
 use Rattle.std.proofs.lemmas.Bool.{cases_lt, lt-ltb, and_parts, ltb-true}
 use Rattle.std.proofs.lemmas.List.Folds.{list_any-append}
@@ -8,7 +8,6 @@ use Rattle.wg_fading.specs.Fading.{was_let_go}
 use Rattle.wg_types.specs.declared.handles.Info.{Info}
 use Rattle.wg_types.specs.declared.handles.Info.TheVariants.{View as ViewKind, PipelineLayout as PipelineLayoutKind, Group as GroupKind, GroupLayout as GroupLayoutKind, Compute as ComputeKind, Render as RenderKind}
 use Rattle.wg_types.specs.declared.handles.ObjRef.{ObjRef}
-use Rattle.wg_trace.specs.declared.steps.Used.{Used}
 use Rattle.wg_types.specs.declared.bindings.IfaceEntry.{IfaceEntry}
 use Rattle.wg_types.specs.declared.bindings.GroupEntryOf.{GroupEntryOf}
 use Rattle.wg_types.specs.declared.bindings.ResourceOf.{ResourceOf}
@@ -24,9 +23,6 @@ use Rattle.wg_model.specs.Bound.{is_automatic}
 use Rattle.wg_model.specs.Making.{known_buffer, known_texture, known_view, known_sampler, known_group_layout, known_pipeline_layout, bound_resource, bound_entry, given_layouts, layout_made}
 use Rattle.wg_model.specs.Views.{view_info}
 use Rattle.wg_history.specs.declared.events.Setup.{Setup}
-use Rattle.wg_history.specs.declared.events.Form.{Form}
-use Rattle.wg_history.specs.declared.events.Form.TheVariants.{Promise as Promising}
-use Rattle.wg_history.specs.declared.events.Promise.TheVariants.{Map as ForMap}
 use Rattle.wg_history.specs.declared.events.Event.{Event}
 use Rattle.wg_history.specs.declared.events.Event.TheVariants.{CreateBuffer, CreateTexture, CreateView, CreateSampler, CreateBindGroupLayout, CreatePipelineLayout, CreateBindGroup, CreateComputePipeline, CreateRenderPipeline, GetBindGroupLayout, CreateQuerySet, CreateEncoder, CreateBundleEncoder, Finish, FinishBundle, Late, Submit, WriteBuffer, WriteTexture, Destroy, Drop, Complete, PushErrorScope, PopErrorScope, Lose, WorkDone, MapAsync, Unmap}
 use Rattle.wg_history.specs.Entries.{Past, effects_of, submitted}
@@ -36,7 +32,7 @@ use Rattle.wg_holders.specs.Holders.{Holdings, mark_at, list_at, is_held as is_h
 use Rattle.wg_life.specs.Lives.{LifeValue, AreDead as AreDeadIn, row_at, is_live, is_unreached, is_dead}
 use Rattle.wg_life.specs.declared.rows.Resource.{Resource}
 use Rattle.wg_life.specs.declared.rows.Row.{Row}
-use Rattle.wg_state.specs.Gone.{touched, asked_by, made_of, written_to, any_gone, names_gone, uses_gone, is_here, info_here, known_here, IsDead, AreDead}
+use Rattle.wg_state.specs.Gone.{touched, made_of, written_to, any_gone, names_gone, is_here, info_here, known_here, IsDead, AreDead}
 use Rattle.wg_state.specs.Rows.{memory_at, IsLifeOf}
 use Rattle.wg_state.proofs.LifeLemmas.{sort_at, held_same, holdings_of}
 use Rattle.wg_state.proofs.KeptLemmas.{reads_dropped}
@@ -54,69 +50,17 @@ or_parts false true e = absurd (true≢false e)
 parts : (gone : List ℕ) (a b : List ObjRef) → any_gone gone (a ++ b) ≡ false → Both (any_gone gone a) (any_gone gone b)
 parts gone a b none = or_parts (any_gone gone a) (any_gone gone b) (sym (list_any-append (λ (object : ObjRef). was_let_go gone object.number) a b) ∙ none)
 
--- one of a list
-pub any_here : (gone : List ℕ) (objects : List ObjRef) (i : ℕ) (d : ObjRef) → any_gone gone objects ≡ false → i < length objects → was_let_go gone (get_or objects i d).number ≡ false
-any_here gone [] i d none lt = absurd (omega (arith, lt))
-any_here gone (object ∷ objects) zero d none lt = (or_parts (was_let_go gone object.number) (any_gone gone objects) none).left
-any_here gone (object ∷ objects) (suc i) d none lt = any_here gone objects i d (or_parts (was_let_go gone object.number) (any_gone gone objects) none).right (omega (arith, lt))
-
-pub uses_here : (gone : List ℕ) (uses : List Used) (i : ℕ) (d : Used) → uses_gone gone uses ≡ false → i < length uses → was_let_go gone (get_or uses i d).number ≡ false
-uses_here gone [] i d none lt = absurd (omega (arith, lt))
-uses_here gone (used ∷ uses) zero d none lt = (or_parts (was_let_go gone used.number) (uses_gone gone uses) none).left
-uses_here gone (used ∷ uses) (suc i) d none lt = uses_here gone uses i d (or_parts (was_let_go gone used.number) (uses_gone gone uses) none).right (omega (arith, lt))
-
-one_here : (gone : List ℕ) (o : Option ObjRef) (object : ObjRef) → o ≡ Some object → any_gone gone (option_to_list o) ≡ false → was_let_go gone object.number ≡ false
-one_here gone o object e none = (or_parts (was_let_go gone object.number) false (sym (ap (λ (o : Option ObjRef). any_gone gone (option_to_list o)) e) ∙ none)).left
-
--- the parts of what an event names
+-- the parts of what an event names that it is made of, and that it writes to
 record NamesHere (gone : List ℕ) (event : Event) : Type 0 where
-  ended : any_gone gone (option_to_list (effects_of event).ended) ≡ false
-  destroyed : any_gone gone (option_to_list (effects_of event).destroyed) ≡ false
-  dropped : any_gone gone (option_to_list (effects_of event).dropped) ≡ false
-  unmapped : any_gone gone (option_to_list (effects_of event).unmapped) ≡ false
-  asked : any_gone gone (asked_by (effects_of event).form) ≡ false
-  submits : any_gone gone (submitted event) ≡ false
   made : any_gone gone (made_of event) ≡ false
   written : any_gone gone (written_to event) ≡ false
 
 names_here : (gone : List ℕ) (event : Event) → names_gone gone event ≡ false → NamesHere gone event
 names_here gone event none =
-    let fx = effects_of event in
-    let all = parts gone (touched fx) (submitted event ++ (made_of event ++ written_to event)) none in
-    let first = parts gone (option_to_list fx.ended) (option_to_list fx.destroyed ++ (option_to_list fx.dropped ++ (option_to_list fx.unmapped ++ asked_by fx.form))) all.left in
-    let second = parts gone (option_to_list fx.destroyed) (option_to_list fx.dropped ++ (option_to_list fx.unmapped ++ asked_by fx.form)) first.right in
-    let third = parts gone (option_to_list fx.dropped) (option_to_list fx.unmapped ++ asked_by fx.form) second.right in
-    let fourth = parts gone (option_to_list fx.unmapped) (asked_by fx.form) third.right in
+    let all = parts gone (touched (effects_of event)) (submitted event ++ (made_of event ++ written_to event)) none in
     let later = parts gone (submitted event) (made_of event ++ written_to event) all.right in
     let last = parts gone (made_of event) (written_to event) later.right in
-    record {
-      ended = first.left;
-      destroyed = second.left;
-      dropped = third.left;
-      unmapped = fourth.left;
-      asked = fourth.right;
-      submits = later.left;
-      made = last.left;
-      written = last.right;
-    }
-
-pub ended_here : (gone : List ℕ) (event : Event) (object : ObjRef) → names_gone gone event ≡ false → (effects_of event).ended ≡ Some object → was_let_go gone object.number ≡ false
-ended_here gone event object none e = one_here gone (effects_of event).ended object e (names_here gone event none).ended
-
-pub destroyed_here : (gone : List ℕ) (event : Event) (object : ObjRef) → names_gone gone event ≡ false → (effects_of event).destroyed ≡ Some object → was_let_go gone object.number ≡ false
-destroyed_here gone event object none e = one_here gone (effects_of event).destroyed object e (names_here gone event none).destroyed
-
-pub dropped_here : (gone : List ℕ) (event : Event) (object : ObjRef) → names_gone gone event ≡ false → (effects_of event).dropped ≡ Some object → was_let_go gone object.number ≡ false
-dropped_here gone event object none e = one_here gone (effects_of event).dropped object e (names_here gone event none).dropped
-
-pub unmapped_here : (gone : List ℕ) (event : Event) (object : ObjRef) → names_gone gone event ≡ false → (effects_of event).unmapped ≡ Some object → was_let_go gone object.number ≡ false
-unmapped_here gone event object none e = one_here gone (effects_of event).unmapped object e (names_here gone event none).unmapped
-
-pub asked_here : (gone : List ℕ) (event : Event) (buffer : ObjRef) (mode offset size : ℕ) → names_gone gone event ≡ false → (effects_of event).form ≡ Promising (ForMap buffer mode offset size) → was_let_go gone buffer.number ≡ false
-asked_here gone event buffer mode offset size none e = (or_parts (was_let_go gone buffer.number) false (sym (ap (λ (form : Form). any_gone gone (asked_by form)) e) ∙ (names_here gone event none).asked)).left
-
-pub submitted_here : (gone : List ℕ) (event : Event) → names_gone gone event ≡ false → any_gone gone (submitted event) ≡ false
-submitted_here gone event none = (names_here gone event none).submits
+    record { made = last.left; written = last.right }
 
 -- what is known of what is named
 
@@ -151,7 +95,7 @@ pub made_same : (gone : List ℕ) (past : Past) (event : Event) → any_gone gon
 made_same gone past (CreateBuffer info) none = refl
 made_same gone past (CreateTexture info) none = refl
 made_same gone past (CreateView texture desc) none = ap (λ (o : Option Info). Some (ViewKind (view_info (known_texture o) texture desc))) (known_same gone past texture (or_parts (was_let_go gone texture.number) false none).left)
-made_same gone past (CreateSampler kind) none = refl
+made_same gone past (CreateSampler desc) none = refl
 made_same gone past (CreateBindGroupLayout entries) none = refl
 made_same gone past (CreatePipelineLayout layouts) none = ap (λ (infos : List GroupLayoutInfo). Some (PipelineLayoutKind (record { layouts = given_layouts (λ r. r) layouts; layouts_info = infos }))) (layouts_same gone past layouts none)
 made_same gone past (CreateBindGroup layout entries) none =
@@ -196,9 +140,6 @@ unkept gone past n out = by (was_let_go gone n) refl
 not_true : (b : Bool) → not b ≡ true → b ≡ false
 not_true true e = absurd (true≢false (sym e))
 not_true false e = refl
-
-pub kept_here : (gone : List ℕ) (past : Past) (n : ℕ) → is_here gone past n ≡ true → was_let_go gone n ≡ false
-kept_here gone past n here = not_true (was_let_go gone n) (and_parts (nat_lt n (count past)) (not (was_let_go gone n)) here).1
 
 -- what was let go is dead
 
@@ -257,6 +198,3 @@ any_none (object ∷ objects) = any_none objects
 
 pub names_none : (gone : List ℕ) (event : Event) → gone ≡ [] → names_gone gone event ≡ false
 names_none gone event none = ap (λ (gone : List ℕ). names_gone gone event) none ∙ any_none (touched (effects_of event) ++ (submitted event ++ (made_of event ++ written_to event)))
-
-pub none_dead : (setup : Setup) (past : Past) (gone : List ℕ) → gone ≡ [] → AreDead setup past gone
-none_dead setup past gone none n went = absurd (true≢false (sym went ∙ ap (λ (gone : List ℕ). was_let_go gone n) none))

@@ -38,7 +38,7 @@ abbrev pub made_of : Event → List ObjRef
 made_of (CreateBuffer info) = []
 made_of (CreateTexture info) = []
 made_of (CreateView texture desc) = texture ∷ []
-made_of (CreateSampler kind) = []
+made_of (CreateSampler desc) = []
 made_of (CreateBindGroupLayout entries) = []
 made_of (CreatePipelineLayout layouts) = flat_map option_to_list layouts
 made_of (CreateBindGroup layout entries) = layout ∷ map (λ named. named.0) (entries_named entries)
@@ -69,7 +69,7 @@ abbrev pub written_to : Event → List ObjRef
 written_to (CreateBuffer info) = []
 written_to (CreateTexture info) = []
 written_to (CreateView texture desc) = []
-written_to (CreateSampler kind) = []
+written_to (CreateSampler desc) = []
 written_to (CreateBindGroupLayout entries) = []
 written_to (CreatePipelineLayout layouts) = []
 written_to (CreateBindGroup layout entries) = []

@@ -1,6 +1,6 @@
 -- What a device has of a limit is no better than what its adapter supports.
 use Rattle.std.proofs.Common.{◌≡◌, ℕ, Bool, true, false, cond, min, max, List, [], ◌∷◌, Option, Some, None, refl, ap, sym, subst, ◌∙◌}
-use Rattle.std.specs.Prelude.{nat_le, IfSome}
+use Rattle.std.specs.Prelude.{nat_le, option_map, IfSome}
 use Rattle.std.specs.List.{find, list_all}
 use Rattle.std.specs.Option.{option_map_or, unwrap_or}
 use Rattle.std.proofs.lemmas.Bool.{le-leb, leb-true, and_parts}
@@ -11,7 +11,7 @@ use Rattle.wg_limits.specs.Limits.{default_limits, limit_of, is_alignment, no_be
 use Rattle.wg_limits.proofs.NameLemmas.{text_names}
 use Rattle.wg_limits.proofs.Between.{all_between}
 use Rattle.wg_limits.specs.declared.names.LimitName.{LimitName}
-use Rattle.wg_limits.specs.declared.names.LimitName.TheVariants.{MaxTextureDimension1d, MaxTextureDimension2d, MaxTextureDimension3d, MaxTextureArrayLayers, MaxBindGroups, MaxBindingsPerBindGroup, MaxDynamicUniformBuffersPerPipelineLayout, MaxDynamicStorageBuffersPerPipelineLayout, MaxSampledTexturesPerShaderStage, MaxSamplersPerShaderStage, MaxStorageBuffersPerShaderStage, MaxStorageTexturesPerShaderStage, MaxUniformBuffersPerShaderStage, MaxUniformBufferBindingSize, MaxStorageBufferBindingSize, MinUniformBufferOffsetAlignment, MinStorageBufferOffsetAlignment, MaxVertexBuffers, MaxVertexAttributes, MaxVertexBufferArrayStride, MaxBufferSize, MaxColorAttachments, MaxComputeWorkgroupsPerDimension}
+use Rattle.wg_limits.specs.declared.names.LimitName.TheVariants.{MaxTextureDimension1d, MaxTextureDimension2d, MaxTextureDimension3d, MaxTextureArrayLayers, MaxBindGroups, MaxBindingsPerBindGroup, MaxDynamicUniformBuffersPerPipelineLayout, MaxDynamicStorageBuffersPerPipelineLayout, MaxSampledTexturesPerShaderStage, MaxSamplersPerShaderStage, MaxStorageBuffersPerShaderStage, MaxStorageTexturesPerShaderStage, MaxUniformBuffersPerShaderStage, MaxUniformBufferBindingSize, MaxStorageBufferBindingSize, MinUniformBufferOffsetAlignment, MinStorageBufferOffsetAlignment, MaxVertexBuffers, MaxVertexAttributes, MaxVertexBufferArrayStride, MaxBufferSize, MaxColorAttachments, MaxComputeWorkgroupsPerDimension, MaxColorAttachmentBytesPerSample}
 use Rattle.wg_told.specs.Limits.{all_named, can_support, is_supported, is_offered, failing, told_bad, LimitsFit}
 use Rattle.wg_told.proofs.LimitLemmas.{all_from, all_can}
 
@@ -77,6 +77,12 @@ for_within : (best values : List (LimitName × ℕ)) (name : LimitName) → list
 for_within best values name support offered =
     granted_within best name (find (λ asked. same_limit asked.0 name) values) (default_within name best support) (asked_within best name values offered)
 
+-- what is told of the bytes of a sample is what a device has for what is asked, also where it has no bound of them
+told_of_bound : (asked : Option (LimitName × ℕ))
+    → granted MaxColorAttachmentBytesPerSample asked ≡ unwrap_or (option_map (λ a. granted MaxColorAttachmentBytesPerSample asked) asked) 32
+told_of_bound None = refl
+told_of_bound (Some asked) = refl
+
 -- each limit of a device is what it has for what is asked of that
 each_for : (name : LimitName) (values : List (LimitName × ℕ)) → limit_for name values ≡ limit_of name (limits_for values)
 each_for MaxTextureDimension1d values = refl
@@ -102,6 +108,7 @@ each_for MaxVertexBufferArrayStride values = refl
 each_for MaxBufferSize values = refl
 each_for MaxColorAttachments values = refl
 each_for MaxComputeWorkgroupsPerDimension values = refl
+each_for MaxColorAttachmentBytesPerSample values = told_of_bound (find (λ asked. same_limit asked.0 MaxColorAttachmentBytesPerSample) values)
 
 -- where no value fails, none does of what the adapter supports, and none of what is asked
 none_bad : (best asked : Option ℕ) → told_bad best asked ≡ None → (best ≡ None) × (asked ≡ None)

@@ -1,33 +1,17 @@
 -- Limits that callers in C ask for, and those that an adapter supports.
-use Rattle.std.proofs.Common.{◌≡◌, ℕ, zero, suc, ◌+◌, Bool, true, false, cond, List, [], ◌∷◌, ◌++◌, map, Option, Some, None, refl, append_assoc}
-use Rattle.std.specs.Prelude.{not, ◌&&◌, option_map}
+use Rattle.std.proofs.Common.{◌≡◌, ℕ, ◌+◌, Bool, true, false, cond, List, [], ◌∷◌, ◌++◌, Option, Some, None, refl, append_assoc}
+use Rattle.std.specs.Prelude.{not, ◌&&◌}
 use Rattle.std.specs.List.{cons_option, list_all, position_from}
-use Rattle.std.specs.Option.{is_some, option_map_or}
+use Rattle.std.specs.Option.{option_map_or}
 use Rattle.std.proofs.lemmas.Bool.{and_parts}
-use Rattle.std.proofs.lemmas.Option.{slice_get-map}
-use Rattle.wg_types.specs.declared.limits.Limits.{Limits}
-use Rattle.wg_limits.specs.Limits.{can_ask, limits_for, limits_asked}
+use Rattle.wg_limits.specs.Limits.{can_ask}
 use Rattle.wg_limits.specs.declared.names.LimitName.{LimitName}
 use Rattle.wg_told.specs.declared.flats.FlatLimit.{FlatLimit}
 use Rattle.wg_told.specs.Limits.{named_by, all_named, passes, is_supported, is_offered, failing, CanAll}
-use Rattle.wg_told.specs.Tables.{nth}
-
--- the value of a number in a table is made of that in another
-pub nth_map : {A B : Type 0} (f : A → B) (table : List A) (n : ℕ) → nth (map f table) n ≡ option_map f (nth table n)
-nth_map f table zero = refl
-nth_map f table (suc n) = slice_get-map f table n
 
 and_true : (a b : Bool) → a ≡ true → b ≡ true → a && b ≡ true
 and_true true b e h = h
 and_true false b e h = cc
-
-some_if : (b : Bool) (limits : Limits) → is_some (cond (b && true) (Some limits) None) ≡ b
-some_if true limits = refl
-some_if false limits = refl
-
--- a value that is asked for alone is granted where one can ask for it
-pub asked_alone : (name : LimitName) (value : ℕ) → is_some (limits_asked ((name, value) ∷ [])) ≡ can_ask (name, value)
-asked_alone name value = some_if (can_ask (name, value)) (limits_for ((name, value) ∷ []))
 
 -- What is named passes where nothing fails.
 one_more : (passed : Bool) (place : ℕ) (later : Option ℕ) (rest : Bool) → cond (not passed) (Some place) later ≡ None → (later ≡ None → rest ≡ true) → passed && rest ≡ true

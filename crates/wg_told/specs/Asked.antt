@@ -3,17 +3,20 @@
 use Rattle.std.specs.Prelude.{ℕ, List, Option, option_map, option_and_then}
 use Rattle.wg_types.specs.declared.requests.RequestOf.{RequestOf}
 use Rattle.wg_types.specs.declared.requests.RequestOf.TheVariants as request
+use Rattle.wg_types.specs.declared.samplers.SamplerDesc.TheVariants.{Kind, Full}
 use Rattle.wg_types.specs.declared.commands.CommandOf.{CommandOf}
 use Rattle.wg_types.specs.declared.commands.CommandOf.TheVariants as command
 use Rattle.wg_told.specs.declared.flats.FlatBuffer.{FlatBuffer}
 use Rattle.wg_told.specs.declared.flats.FlatTexture.{FlatTexture}
 use Rattle.wg_told.specs.declared.flats.FlatView.{FlatView}
+use Rattle.wg_told.specs.declared.flats.FlatSampler.{FlatSampler}
 use Rattle.wg_told.specs.declared.flats.FlatLayoutEntry.{FlatLayoutEntry}
 use Rattle.wg_told.specs.declared.flats.FlatIfaceEntry.{FlatIfaceEntry}
 use Rattle.wg_told.specs.declared.flats.FlatGroupEntry.{FlatGroupEntry}
 use Rattle.wg_told.specs.declared.flats.FlatVertexBuffer.{FlatVertexBuffer}
 use Rattle.wg_told.specs.declared.flats.FlatAttribute.{FlatAttribute}
 use Rattle.wg_told.specs.declared.flats.FlatRender.{FlatRender}
+use Rattle.wg_told.specs.declared.flats.FlatTarget.{FlatTarget}
 use Rattle.wg_told.specs.declared.flats.FlatBundle.{FlatBundle}
 use Rattle.wg_told.specs.declared.flats.FlatColor.{FlatColor}
 use Rattle.wg_told.specs.declared.flats.FlatDepth.{FlatDepth}
@@ -23,7 +26,8 @@ use Rattle.wg_told.specs.declared.flats.FlatTexelCopy.{FlatTexelCopy}
 use Rattle.wg_told.specs.declared.flats.FlatTextureCopy.{FlatTextureCopy}
 use Rattle.wg_told.specs.declared.flats.FlatTextureWrite.{FlatTextureWrite}
 use Rattle.wg_told.specs.Tables.{nth, maybe_nth, flag_of, wide_of, formats, sampler_kinds, index_formats, filters}
-use Rattle.wg_told.specs.Flats.{every, extent_of, origin_of, buffer_of, texture_of, view_of, layout_entry_of, compute_iface_of, render_iface_of, group_entry_of, vertex_buffers_of, target_of, depth_of, color_of, depth_target_of, viewport_of, layout_of, spot_of}
+use Rattle.wg_told.specs.Flats.{every, extent_of, origin_of, buffer_of, texture_of, view_of, layout_entry_of, compute_iface_of, render_iface_of, group_entry_of, vertex_buffers_of, format_of, color_of, depth_target_of, viewport_of, layout_of, spot_of}
+use Rattle.wg_told.specs.Fixed.{sampler_of, target_of, depth_of, primitive_of}
 
 -- Calls.
 
@@ -41,7 +45,11 @@ create_view texture view = option_map (λ asked. request.CreateView texture aske
 
 -- the createSampler of a kind, if the number is one
 abbrev pub create_sampler : ℕ → Option (RequestOf ℕ)
-create_sampler kind = option_map (λ known. request.CreateSampler known) (nth sampler_kinds kind)
+create_sampler kind = option_map (λ known. request.CreateSampler (Kind known)) (nth sampler_kinds kind)
+
+-- the createSampler of a flat description, if its values are ones
+abbrev pub create_described_sampler : FlatSampler → Option (RequestOf ℕ)
+create_described_sampler sampler = option_map (λ fields. request.CreateSampler (Full fields)) (sampler_of sampler)
 
 -- the createBindGroupLayout of flat entries, if their values are ones
 abbrev pub create_bind_group_layout : List FlatLayoutEntry → Option (RequestOf ℕ)
@@ -57,18 +65,27 @@ create_compute_pipeline layout iface =
     option_map (λ used. request.CreateComputePipeline (wide_of layout) (record { entries = used })) (every compute_iface_of iface)
 
 -- the createRenderPipeline of flat descriptions, if their values are ones
-abbrev pub create_render_pipeline : FlatRender → List FlatIfaceEntry → List FlatVertexBuffer → List FlatAttribute → List ℕ → Option (RequestOf ℕ)
+abbrev pub create_render_pipeline : FlatRender → List FlatIfaceEntry → List FlatVertexBuffer → List FlatAttribute → List FlatTarget → Option (RequestOf ℕ)
 create_render_pipeline render iface buffers attributes targets =
-    option_and_then (λ depth. option_and_then (λ used. option_and_then (λ read. option_map (λ drawn.
-    request.CreateRenderPipeline (wide_of render.layout) (record { iface = used; buffers = read; targets = drawn; depth = depth; samples = render.samples }))
-    (every target_of targets)) (vertex_buffers_of buffers attributes)) (every render_iface_of iface)) (depth_of render)
+    option_and_then (λ primitive. option_and_then (λ depth. option_and_then (λ covers.
+    option_and_then (λ used. option_and_then (λ read. option_map (λ drawn. request.CreateRenderPipeline (wide_of render.layout) (record {
+      iface = used;
+      buffers = read;
+      targets = drawn;
+      primitive = primitive;
+      depth = depth;
+      samples = render.samples;
+      alpha_to_coverage = covers;
+    }))
+    (every target_of targets)) (vertex_buffers_of buffers attributes)) (every render_iface_of iface))
+    (flag_of render.alpha_to_coverage)) (depth_of render)) (primitive_of render)
 
 -- the createBundleEncoder of a flat description, if its values are ones
 abbrev pub create_bundle_encoder : FlatBundle → List ℕ → Option (RequestOf ℕ)
 create_bundle_encoder bundle colors =
     option_and_then (λ depth. option_and_then (λ depth_read_only. option_and_then (λ stencil_read_only. option_map (λ drawn.
     request.CreateBundleEncoder (record { colors = drawn; depth = depth; samples = bundle.samples; depth_read_only = depth_read_only; stencil_read_only = stencil_read_only }))
-    (every target_of colors)) (flag_of bundle.stencil_read_only)) (flag_of bundle.depth_read_only)) (maybe_nth formats bundle.depth_format)
+    (every format_of colors)) (flag_of bundle.stencil_read_only)) (flag_of bundle.depth_read_only)) (maybe_nth formats bundle.depth_format)
 
 -- the writeTexture that a flat write asks for, if its values are ones
 abbrev pub write_texture : FlatTextureWrite → Option (RequestOf ℕ)

@@ -18,7 +18,7 @@ use Rattle.wg_types.specs.declared.textures.TextureSpot.{TextureSpot}
 use Rattle.wg_types.specs.declared.textures.DataLayout.{DataLayout}
 use Rattle.wg_types.specs.declared.vertex.VertexAttribute.{VertexAttribute}
 use Rattle.wg_types.specs.declared.vertex.VertexBuffer.{VertexBuffer}
-use Rattle.wg_types.specs.declared.render.DepthState.{DepthState}
+use Rattle.wg_types.specs.declared.vertex.VertexStep.{VertexStep}
 use Rattle.wg_types.specs.declared.render.ColorTargetOf.{ColorTargetOf}
 use Rattle.wg_types.specs.declared.render.DepthTargetOf.{DepthTargetOf}
 use Rattle.wg_types.specs.declared.render.Viewport.{Viewport}
@@ -35,7 +35,6 @@ use Rattle.wg_told.specs.declared.flats.FlatIfaceEntry.{FlatIfaceEntry}
 use Rattle.wg_told.specs.declared.flats.FlatGroupEntry.{FlatGroupEntry}
 use Rattle.wg_told.specs.declared.flats.FlatVertexBuffer.{FlatVertexBuffer}
 use Rattle.wg_told.specs.declared.flats.FlatAttribute.{FlatAttribute}
-use Rattle.wg_told.specs.declared.flats.FlatRender.{FlatRender}
 use Rattle.wg_told.specs.declared.flats.FlatColor.{FlatColor}
 use Rattle.wg_told.specs.declared.flats.FlatDepth.{FlatDepth}
 use Rattle.wg_told.specs.declared.flats.FlatViewport.{FlatViewport}
@@ -145,39 +144,30 @@ attribute_of a = option_map (λ format. record { format = format; offset = a.off
 abbrev pub attributes_at : List FlatAttribute → ℕ → Option (List VertexAttribute)
 attributes_at attributes n = every attribute_of (filter (λ a. nat_eq a.buffer n) attributes)
 
--- the vertex buffer that a flat one is, with its attributes, if its values are ones
-abbrev pub vertex_buffer_of : List FlatAttribute → ℕ → FlatVertexBuffer → Option VertexBuffer
-vertex_buffer_of attributes n b =
-    option_and_then (λ step. option_map (λ own. record { stride = b.stride; step = step; attributes = own }) (attributes_at attributes n)) (nth vertex_steps b.step)
+-- the vertex buffer of a slot with these attributes, by its step: a slot that is left out has none
+abbrev pub slot_of : FlatVertexBuffer → List VertexAttribute → Option VertexStep → Option (Option VertexBuffer)
+slot_of b [] None = Some None
+slot_of b (attribute ∷ attributes) None = None
+slot_of b own (Some step) = Some (Some (record { stride = b.stride; step = step; attributes = own }))
+
+-- the vertex buffer that a flat one is, with its attributes, or none where its step is left out, if its values are ones
+abbrev pub vertex_buffer_of : List FlatAttribute → ℕ → FlatVertexBuffer → Option (Option VertexBuffer)
+vertex_buffer_of attributes n b = option_and_then (λ step. option_and_then (λ own. slot_of b own step) (attributes_at attributes n)) (maybe_nth vertex_steps b.step)
 
 -- the vertex buffers from this index on
-abbrev pub vertex_buffers_from : List FlatAttribute → ℕ → List FlatVertexBuffer → Option (List VertexBuffer)
+abbrev pub vertex_buffers_from : List FlatAttribute → ℕ → List FlatVertexBuffer → Option (List (Option VertexBuffer))
 vertex_buffers_from attributes n [] = Some []
 vertex_buffers_from attributes n (b ∷ bs) =
     option_and_then (λ one. option_map (λ more. one ∷ more) (vertex_buffers_from attributes (n + 1) bs)) (vertex_buffer_of attributes n b)
 
 -- each attribute is one of a buffer that there is
-abbrev pub vertex_buffers_of : List FlatVertexBuffer → List FlatAttribute → Option (List VertexBuffer)
+abbrev pub vertex_buffers_of : List FlatVertexBuffer → List FlatAttribute → Option (List (Option VertexBuffer))
 vertex_buffers_of buffers attributes =
     if list_all (λ a. nat_lt a.buffer (length buffers)) attributes then vertex_buffers_from attributes 0 buffers else None
 
 -- a format that may be left out
-abbrev pub target_of : ℕ → Option (Option Format)
-target_of n = maybe_nth formats n
-
--- what a flat render pipeline does with depth and stencil, where it has a format, if its values are ones
-abbrev pub depth_with : FlatRender → Format → Option (Option DepthState)
-depth_with r format =
-    option_and_then (λ depth. option_map (λ stencil. Some (record { format = format; depth_write = depth; stencil_write = stencil })) (flag_of r.stencil_write)) (flag_of r.depth_write)
-
--- what a flat render pipeline does with depth and stencil, by the format, which may be left out
-abbrev pub depth_by : FlatRender → Option Format → Option (Option DepthState)
-depth_by r None = Some None
-depth_by r (Some format) = depth_with r format
-
--- what a flat render pipeline does with depth and stencil, if its values are ones
-abbrev pub depth_of : FlatRender → Option (Option DepthState)
-depth_of r = option_and_then (depth_by r) (maybe_nth formats r.depth_format)
+abbrev pub format_of : ℕ → Option (Option Format)
+format_of n = maybe_nth formats n
 
 -- a color attachment
 abbrev pub attached_of : FlatColor → Option (Option (ColorTargetOf ℕ))
@@ -201,6 +191,7 @@ depth_attached_of d =
     option_and_then (λ stencil_load. option_and_then (λ stencil_store. option_map (λ stencil_read_only. Some (record {
       view = d.view;
       depth_load = depth_load;
+      depth_clear = wide_of d.depth_clear;
       depth_store = depth_store;
       depth_read_only = depth_read_only;
       stencil_load = stencil_load;

@@ -1,6 +1,7 @@
 pub mod Asked
 pub mod Drains
 pub mod Flats
+pub mod Fixed
 pub mod Items
 pub mod Laws
 pub mod Limits

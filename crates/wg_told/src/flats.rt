@@ -53,6 +53,19 @@ pub struct FlatView {
     pub base_layer: u32,
 }
 
+/// A sampler by what describes it. Its levels of detail stand for themselves over 65536.
+#[repr(C)]
+#[derive(Clone, Copy)]
+pub struct FlatSampler {
+    pub lod_min: u64,
+    pub lod_max: u64,
+    pub mag_filter: u32,
+    pub min_filter: u32,
+    pub mipmap_filter: u32,
+    pub compare: u32,
+    pub max_anisotropy: u32,
+}
+
 #[repr(C)]
 #[derive(Clone, Copy)]
 pub struct FlatBinding {
@@ -113,12 +126,50 @@ pub struct FlatAttribute {
 
 #[repr(C)]
 #[derive(Clone, Copy)]
+pub struct FlatBlend {
+    pub operation: u32,
+    pub src_factor: u32,
+    pub dst_factor: u32,
+}
+
+/// A color target of a render pipeline, whose `color` and `alpha` count where it `blends`.
+#[repr(C)]
+#[derive(Clone, Copy)]
+pub struct FlatTarget {
+    pub format: u32,
+    pub write_mask: u32,
+    pub blends: u32,
+    pub color: FlatBlend,
+    pub alpha: FlatBlend,
+}
+
+#[repr(C)]
+#[derive(Clone, Copy)]
+pub struct FlatFace {
+    pub compare: u32,
+    pub fail_op: u32,
+    pub depth_fail_op: u32,
+    pub pass_op: u32,
+}
+
+/// Where `stencil_write` is set, that tells of the stencil alone; else its mask and its faces do.
+#[repr(C)]
+#[derive(Clone, Copy)]
 pub struct FlatRender {
     pub layout: u64,
     pub samples: u32,
     pub depth_format: u32,
     pub depth_write: u32,
     pub stencil_write: u32,
+    pub depth_compare: u32,
+    pub biased: u32,
+    pub stencil_write_mask: u32,
+    pub stencil_front: FlatFace,
+    pub stencil_back: FlatFace,
+    pub topology: u32,
+    pub strip_index_format: u32,
+    pub cull_mode: u32,
+    pub alpha_to_coverage: u32,
 }
 
 #[repr(C)]
@@ -150,6 +201,7 @@ pub struct FlatDepth {
     pub stencil_load: u32,
     pub stencil_store: u32,
     pub stencil_read_only: u32,
+    pub depth_clear: u64,
 }
 
 /// A viewport, each number of which stands for itself over 65536.

@@ -1,14 +1,13 @@
 //! The limits that callers in C ask for, and those that an adapter supports.
-ghost use Rattle.std.specs.Prelude.{◌≡◌, IfNone, IfOk, map};
+ghost use Rattle.std.specs.Prelude.{◌≡◌, IfNone, IfOk};
 ghost use Rattle.std.specs.List.{find};
-ghost use Rattle.wg_limits.specs.Limits.{is_alignment, no_better, can_ask, limit_of};
-ghost use Rattle.wg_limits.specs.Names.{limit_names, same_limit};
+ghost use Rattle.wg_limits.specs.Names.{same_limit};
 ghost use Rattle.wg_told.specs.Limits.{limit_at, named_by, all_named, passes, can_support, is_supported, is_offered, failing, bad_limit, limits_of, CanAll, LimitsFit};
 
 use crate::flats::FlatLimit;
 use crate::tables::nth;
 use std::alloc::Global;
-use wg_limits::{LimitName, asked, default_limits};
+use wg_limits::{LimitName, asked, can_ask, default_limits, is_alignment, limit_of, no_better};
 use wg_types::NoMemory;
 use wg_types::items::Items;
 use wg_types::limits::Limits;
@@ -26,42 +25,12 @@ const IN_BEST: u32 = 1;
 
 const IN_LIMITS: u32 = 2;
 
-/// The limits in the order of their numbers.
-fn in_order(limits: &Limits) -> [u64; 23]
-    ensures { result ≡ map (λ name. limit_of name limits.now) limit_names }
-{
-    [
-        u64::from(limits.max_texture_dimension_1d),
-        u64::from(limits.max_texture_dimension_2d),
-        u64::from(limits.max_texture_dimension_3d),
-        u64::from(limits.max_texture_array_layers),
-        u64::from(limits.max_bind_groups),
-        u64::from(limits.max_bindings_per_bind_group),
-        u64::from(limits.max_dynamic_uniform_buffers_per_pipeline_layout),
-        u64::from(limits.max_dynamic_storage_buffers_per_pipeline_layout),
-        u64::from(limits.max_sampled_textures_per_shader_stage),
-        u64::from(limits.max_samplers_per_shader_stage),
-        u64::from(limits.max_storage_buffers_per_shader_stage),
-        u64::from(limits.max_storage_textures_per_shader_stage),
-        u64::from(limits.max_uniform_buffers_per_shader_stage),
-        limits.max_uniform_buffer_binding_size,
-        limits.max_storage_buffer_binding_size,
-        u64::from(limits.min_uniform_buffer_offset_alignment),
-        u64::from(limits.min_storage_buffer_offset_alignment),
-        u64::from(limits.max_vertex_buffers),
-        u64::from(limits.max_vertex_attributes),
-        u64::from(limits.max_vertex_buffer_array_stride),
-        limits.max_buffer_size,
-        u64::from(limits.max_color_attachments),
-        u64::from(limits.max_compute_workgroups_per_dimension),
-    ]
-}
-
 /// The limit that has a number, if there is one.
 pub fn limit_at(limits: &Limits, number: u32) -> Option<u64>
     ensures { result ≡ limit_at limits.now number }
 {
-    nth(&in_order(limits), number)
+    let name = nth(LimitName::all(), number)?;
+    Some(limit_of(name, limits))
 }
 
 fn named_by(limit: &FlatLimit) -> Option<(LimitName, u64)>
@@ -71,24 +40,6 @@ fn named_by(limit: &FlatLimit) -> Option<(LimitName, u64)>
     Some((name, limit.value))
 }
 
-fn is_alignment(name: LimitName) -> bool
-    ensures { result ≡ is_alignment name }
-{
-    name == LimitName::MinUniformBufferOffsetAlignment
-        || name == LimitName::MinStorageBufferOffsetAlignment
-}
-
-/// Whether a value is no better than another.
-fn no_better(name: LimitName, value: u64, other: u64) -> bool
-    ensures { result ≡ no_better name value other }
-{
-    if is_alignment(name) {
-        other <= value
-    } else {
-        value <= other
-    }
-}
-
 /// Whether this may be the best that an adapter supports.
 fn can_support(limit: &FlatLimit) -> bool
     ensures { result ≡ passes can_support limit.now }
@@ -96,14 +47,8 @@ fn can_support(limit: &FlatLimit) -> bool
     let Some((name, value)) = named_by(limit) else {
         return false;
     };
-    let Some(default) = limit_at(&default_limits(), limit.name) else {
-        return false;
-    };
-    if is_alignment(name) {
-        value <= default && value.is_power_of_two() && value < 1 << 32
-    } else {
-        default <= value
-    }
+    no_better(name, limit_of(name, &default_limits()), value)
+        && (!is_alignment(name) || (value.is_power_of_two() && value < 1 << 32))
 }
 
 /// The place of the first value that is the best of no adapter.
@@ -130,14 +75,6 @@ fn said_of(best: &[FlatLimit], name: LimitName) -> Option<(LimitName, u64)>
         }
     }
     None
-}
-
-/// Whether one can ask for a value of any adapter.
-#[tactic(auto, using(crate::proofs::LimitLemmas::asked_alone))]
-fn can_ask(name: LimitName, value: u64) -> bool
-    ensures { result ≡ can_ask (name, value) }
-{
-    asked(&[(name, value)]).is_some()
 }
 
 fn is_supported(best: &[FlatLimit], name: LimitName, value: u64) -> bool

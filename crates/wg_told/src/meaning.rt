@@ -1,11 +1,11 @@
 //! What flat structs stand for.
 ghost use Rattle.std.specs.Prelude.{◌≡◌, Option, IfOk};
-ghost use Rattle.wg_told.specs.Flats.{every, extent_of, origin_of, buffer_of, texture_of, view_of, buffer_binding_of, texture_binding_of, storage_binding_of, binding_of, layout_entry_of, used_of, compute_iface_of, render_iface_of, resource_of, group_entry_of, attribute_of, target_of, depth_with, depth_of, attached_of, color_of, depth_attached_of, depth_target_of, viewport_of, layout_of, spot_of, on_of};
+ghost use Rattle.wg_told.specs.Flats.{every, extent_of, origin_of, buffer_of, texture_of, view_of, buffer_binding_of, texture_binding_of, storage_binding_of, binding_of, layout_entry_of, used_of, compute_iface_of, render_iface_of, resource_of, group_entry_of, attribute_of, format_of, attached_of, color_of, depth_attached_of, depth_target_of, viewport_of, layout_of, spot_of, on_of};
 
 use crate::flats::{
     FlatAttribute, FlatBinding, FlatBuffer, FlatColor, FlatDepth, FlatExtent, FlatGroupEntry,
-    FlatIfaceEntry, FlatLayoutEntry, FlatOrigin, FlatRender, FlatSpot, FlatTexelLayout,
-    FlatTexture, FlatView, FlatViewport,
+    FlatIfaceEntry, FlatLayoutEntry, FlatOrigin, FlatSpot, FlatTexelLayout, FlatTexture, FlatView,
+    FlatViewport,
 };
 use crate::tables::{
     ASPECTS, BUFFER_BINDINGS, FORMATS, LEFT_OUT, LOAD_OPS, RENDER_STAGES, SAMPLE_TYPES,
@@ -19,7 +19,7 @@ use wg_types::commands::On;
 use wg_types::formats::Format;
 use wg_types::handles::BufferInfo;
 use wg_types::items::Items;
-use wg_types::render::{ColorTargetOf, DepthState, DepthTargetOf, Viewport};
+use wg_types::render::{ColorTargetOf, DepthTargetOf, Viewport};
 use wg_types::textures::{DataLayout, TextureInfo, TextureSpot, ViewAsked};
 use wg_types::vertex::VertexAttribute;
 
@@ -256,34 +256,13 @@ pub fn attribute_of(flat: &FlatAttribute) -> Option<VertexAttribute>
 
 /// Reads formats that may be left out.
 #[derive(Drop)]
-pub struct Targets;
+pub struct Formats;
 
-impl Reads<u32, Option<Format>> for Targets {
-    ghost reads = { λ _. target_of };
+impl Reads<u32, Option<Format>> for Formats {
+    ghost reads = { λ _. format_of };
 
     fn read(&self, flat: &u32) -> Option<Option<Format>> {
         maybe_nth(&FORMATS, *flat)
-    }
-}
-
-fn depth_with(flat: &FlatRender, format: Format) -> Option<Option<DepthState>>
-    ensures { result ≡ depth_with flat.now format }
-{
-    let depth_write = flag_of(flat.depth_write)?;
-    let stencil_write = flag_of(flat.stencil_write)?;
-    Some(Some(DepthState {
-        format,
-        depth_write,
-        stencil_write,
-    }))
-}
-
-pub fn depth_of(flat: &FlatRender) -> Option<Option<DepthState>>
-    ensures { result ≡ depth_of flat.now }
-{
-    match maybe_nth(&FORMATS, flat.depth_format)? {
-        Some(format) => depth_with(flat, format),
-        None => Some(None),
     }
 }
 
@@ -329,6 +308,7 @@ fn depth_attached_of(flat: &FlatDepth) -> Option<Option<DepthTargetOf<u64>>>
     Some(Some(DepthTargetOf {
         view: flat.view,
         depth_load,
+        depth_clear: wide_of(flat.depth_clear),
         depth_store,
         depth_read_only,
         stencil_load,

@@ -5,13 +5,14 @@ ghost use Rattle.wg_types.specs.declared.requests.RequestOf.TheVariants as reque
 ghost use Rattle.wg_told.specs.Asked as asked;
 ghost use Rattle.wg_told.specs.Tables.{wide_of};
 
+use crate::fixed::{Targets, depth_of, primitive_of, sampler_of};
 use crate::flats::{
     FlatAttribute, FlatBuffer, FlatBundle, FlatGroupEntry, FlatIfaceEntry, FlatLayoutEntry,
-    FlatRender, FlatTexture, FlatTextureWrite, FlatVertexBuffer, FlatView,
+    FlatRender, FlatSampler, FlatTarget, FlatTexture, FlatTextureWrite, FlatVertexBuffer, FlatView,
 };
 use crate::meaning::{
-    ComputeUses, GroupEntries, LayoutEntries, RenderUses, Targets, buffer_of, depth_of, every,
-    extent_of, layout_of, spot_of, texture_of, view_of,
+    ComputeUses, Formats, GroupEntries, LayoutEntries, RenderUses, buffer_of, every, extent_of,
+    layout_of, spot_of, texture_of, view_of,
 };
 use crate::tables::{FILTERS, FORMATS, SAMPLER_KINDS, flag_of, maybe_nth, nth, wide_of};
 use crate::vertices::vertex_buffers_of;
@@ -21,6 +22,7 @@ use wg_types::groups::Interface;
 use wg_types::items::Items;
 use wg_types::render::{RenderDesc, TargetInfo};
 use wg_types::requests::RequestOf;
+use wg_types::samplers::SamplerDesc;
 use wg_types::shared::Shared;
 
 pub fn create_buffer(buffer: &FlatBuffer) -> Option<RequestOf<u64>>
@@ -48,7 +50,18 @@ pub fn create_sampler(kind: u32) -> Option<RequestOf<u64>>
     ensures { result ≡ asked.create_sampler kind }
 {
     let kind = nth(&SAMPLER_KINDS, kind)?;
-    Some(RequestOf::CreateSampler { kind })
+    Some(RequestOf::CreateSampler {
+        desc: SamplerDesc::Kind(kind),
+    })
+}
+
+pub fn create_described_sampler(sampler: &FlatSampler) -> Option<RequestOf<u64>>
+    ensures { result ≡ asked.create_described_sampler sampler.now }
+{
+    let fields = sampler_of(sampler)?;
+    Some(RequestOf::CreateSampler {
+        desc: SamplerDesc::Full(fields),
+    })
 }
 
 pub fn create_bind_group_layout(
@@ -126,11 +139,17 @@ pub fn create_render_pipeline(
     iface: &[FlatIfaceEntry],
     buffers: &[FlatVertexBuffer],
     attributes: &[FlatAttribute],
-    targets: &[u32],
+    targets: &[FlatTarget],
 ) -> Result<Option<RequestOf<u64>>, NoMemory>
     ensures { IfOk result (λ made. made ≡ asked.create_render_pipeline render.now iface.now buffers.now attributes.now targets.now) }
 {
+    let Some(primitive) = primitive_of(render) else {
+        return Ok(None);
+    };
     let Some(depth) = depth_of(render) else {
+        return Ok(None);
+    };
+    let Some(alpha_to_coverage) = flag_of(render.alpha_to_coverage) else {
         return Ok(None);
     };
     let Some(iface) = every(alloc, &RenderUses, iface)? else {
@@ -146,8 +165,10 @@ pub fn create_render_pipeline(
         iface,
         buffers,
         targets,
+        primitive,
         depth,
         samples: render.samples,
+        alpha_to_coverage,
     };
     let desc = Shared::new(alloc, desc)?;
     Ok(Some(RequestOf::CreateRenderPipeline {
@@ -172,7 +193,7 @@ pub fn create_bundle_encoder(
     let Some(stencil_read_only) = flag_of(bundle.stencil_read_only) else {
         return Ok(None);
     };
-    let Some(colors) = every(alloc, &Targets, colors)? else {
+    let Some(colors) = every(alloc, &Formats, colors)? else {
         return Ok(None);
     };
     let targets = TargetInfo {

@@ -1,11 +1,13 @@
 //! Which value each number of the header stands for.
 ghost use Rattle.std.specs.Prelude.{◌≡◌};
-ghost use Rattle.wg_told.specs.Tables.{nth, maybe_nth, flag_of, wide_of, narrow_of};
+ghost use Rattle.wg_told.specs.Tables.{nth, nth_or, maybe_nth, flag_of, maybe_flag_of, wide_of, narrow_of};
 
 use wg_types::bindings::{BufferBinding, SamplerKind, Stage, StorageAccess};
+use wg_types::fixed::{BlendFactor, BlendOperation, CullMode, StencilOperation, Topology};
 use wg_types::formats::{Format, SampleType};
 use wg_types::render::{LoadOp, StoreOp};
 use wg_types::replies::Filter;
+use wg_types::samplers::{Compare, FilterMode};
 use wg_types::textures::{AspectWord, TextureDim, ViewDim};
 use wg_types::vertex::{IndexFormat, VertexFormat, VertexStep};
 
@@ -66,6 +68,19 @@ pub const SAMPLER_KINDS: [SamplerKind; 3] = [
     SamplerKind::Comparison,
 ];
 
+pub const FILTER_MODES: [FilterMode; 2] = [FilterMode::Nearest, FilterMode::Linear];
+
+pub const COMPARES: [Compare; 8] = [
+    Compare::Never,
+    Compare::Less,
+    Compare::Equal,
+    Compare::LessEqual,
+    Compare::Greater,
+    Compare::NotEqual,
+    Compare::GreaterEqual,
+    Compare::Always,
+];
+
 pub const STORAGE_ACCESSES: [StorageAccess; 3] = [
     StorageAccess::ReadOnly,
     StorageAccess::WriteOnly,
@@ -93,6 +108,51 @@ pub const VERTEX_FORMATS: [VertexFormat; 12] = [
 
 pub const INDEX_FORMATS: [IndexFormat; 2] = [IndexFormat::Uint16, IndexFormat::Uint32];
 
+pub const TOPOLOGIES: [Topology; 5] = [
+    Topology::PointList,
+    Topology::LineList,
+    Topology::LineStrip,
+    Topology::TriangleList,
+    Topology::TriangleStrip,
+];
+
+pub const CULL_MODES: [CullMode; 3] = [CullMode::None, CullMode::Front, CullMode::Back];
+
+pub const BLEND_OPERATIONS: [BlendOperation; 5] = [
+    BlendOperation::Add,
+    BlendOperation::Subtract,
+    BlendOperation::ReverseSubtract,
+    BlendOperation::Min,
+    BlendOperation::Max,
+];
+
+pub const BLEND_FACTORS: [BlendFactor; 13] = [
+    BlendFactor::Zero,
+    BlendFactor::One,
+    BlendFactor::Src,
+    BlendFactor::OneMinusSrc,
+    BlendFactor::SrcAlpha,
+    BlendFactor::OneMinusSrcAlpha,
+    BlendFactor::Dst,
+    BlendFactor::OneMinusDst,
+    BlendFactor::DstAlpha,
+    BlendFactor::OneMinusDstAlpha,
+    BlendFactor::SrcAlphaSaturated,
+    BlendFactor::Constant,
+    BlendFactor::OneMinusConstant,
+];
+
+pub const STENCIL_OPERATIONS: [StencilOperation; 8] = [
+    StencilOperation::Keep,
+    StencilOperation::Zero,
+    StencilOperation::Replace,
+    StencilOperation::Invert,
+    StencilOperation::IncrementClamp,
+    StencilOperation::DecrementClamp,
+    StencilOperation::IncrementWrap,
+    StencilOperation::DecrementWrap,
+];
+
 pub const LOAD_OPS: [LoadOp; 2] = [LoadOp::Load, LoadOp::Clear];
 
 pub const STORE_OPS: [StoreOp; 2] = [StoreOp::Store, StoreOp::Discard];
@@ -101,12 +161,24 @@ pub const FILTERS: [Filter; 3] = [Filter::Validation, Filter::OutOfMemory, Filte
 
 const FLAGS: [bool; 2] = [false, true];
 
+const MAYBE_FLAGS: [Option<bool>; 3] = [Some(false), Some(true), None];
+
 /// The value of a number, if it has one.
 pub fn nth<T: Copy>(table: &[T], number: u32) -> Option<T>
     ensures { result ≡ nth table.now number }
 {
     if number == 0 {
         return None;
+    }
+    table.get((number - 1) as usize).copied()
+}
+
+/// The same where 0 stands for the value that is usual.
+pub fn nth_or<T: Copy>(table: &[T], usual: T, number: u32) -> Option<T>
+    ensures { result ≡ nth_or table.now usual number }
+{
+    if number == 0 {
+        return Some(usual);
     }
     table.get((number - 1) as usize).copied()
 }
@@ -129,6 +201,13 @@ pub fn flag_of(number: u32) -> Option<bool>
     ensures { result ≡ flag_of number }
 {
     FLAGS.get(number as usize).copied()
+}
+
+/// A flag that may be left out, if it is one.
+pub fn maybe_flag_of(number: u32) -> Option<Option<bool>>
+    ensures { result ≡ maybe_flag_of number }
+{
+    MAYBE_FLAGS.get(number as usize).copied()
 }
 
 /// A number or an object that may be left out.

@@ -1,3 +1,2 @@
 pub mod RefLemmas
 pub mod WordLemmas
-pub mod WantedLemmas

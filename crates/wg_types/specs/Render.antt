@@ -37,6 +37,7 @@ map_depth f target =
     record {
       view = f target.view;
       depth_load = target.depth_load;
+      depth_clear = target.depth_clear;
       depth_store = target.depth_store;
       depth_read_only = target.depth_read_only;
       stencil_load = target.stencil_load;

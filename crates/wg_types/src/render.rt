@@ -7,6 +7,7 @@ ghost use Rattle.wg_types.specs.Render.{color_named, depth_named, begin_named, m
 
 use crate::NoMemory;
 use crate::bindings::IfaceEntry;
+use crate::fixed::{DepthState, PrimitiveState, Target};
 use crate::formats::Format;
 use crate::items::Items;
 use crate::refs::{self, Ask, Find, Gather};
@@ -14,24 +15,19 @@ use crate::vertex::VertexBuffer;
 use crate::wanted::Wanted;
 use std::alloc::Global;
 
-/// What a render pipeline does with depth and stencil (WebGPU, "GPUDepthStencilState").
-#[derive(Clone, Copy, PartialEq, Eq)]
-pub struct DepthState {
-    pub format: Format,
-    pub depth_write: bool,
-    pub stencil_write: bool,
-}
-
 /// What a render pipeline is asked for with, beside its layout (WebGPU, "GPURenderPipelineDescriptor"):
-/// what its shaders use of its groups, its vertex buffers by slot, the formats of its color targets, some
-/// of which may be left out, what it does with depth and stencil, and its count of samples.
+/// what its shaders use of its groups, its vertex buffers and its color targets by slot, some of which may be
+/// left out, what its vertices make, what it does with depth and stencil, its count of samples, and whether
+/// alphas tell which samples are covered. The mask of samples is not told: no rule goes by that.
 #[derive(Clone, Drop)]
 pub struct RenderDesc {
     pub iface: Items<IfaceEntry>,
-    pub buffers: Items<VertexBuffer>,
-    pub targets: Items<Option<Format>>,
+    pub buffers: Items<Option<VertexBuffer>>,
+    pub targets: Items<Option<Target>>,
+    pub primitive: PrimitiveState,
     pub depth: Option<DepthState>,
     pub samples: u32,
+    pub alpha_to_coverage: bool,
 }
 
 /// To what a render pass or a bundle draws (WebGPU, "GPURenderPassLayout"): the formats of its color
@@ -72,10 +68,13 @@ pub struct ColorTargetOf<R> {
 }
 
 /// A depth and stencil attachment, with its view as `R` (WebGPU, "GPURenderPassDepthStencilAttachment").
+/// `depth_clear`, which stands for itself over 65536, is to what depth is cleared, if that is told. To what
+/// stencil is cleared is not: no rule goes by that.
 #[derive(Drop)]
 pub struct DepthTargetOf<R> {
     pub view: R,
     pub depth_load: Option<LoadOp>,
+    pub depth_clear: Option<u64>,
     pub depth_store: Option<StoreOp>,
     pub depth_read_only: bool,
     pub stencil_load: Option<LoadOp>,
@@ -345,6 +344,7 @@ fn found_depth<R, S: Drop, F: Find<R, S>>(
         Some(target) => Ok(Some(DepthTargetOf {
             view: find.find(&target.view)?,
             depth_load: target.depth_load,
+            depth_clear: target.depth_clear,
             depth_store: target.depth_store,
             depth_read_only: target.depth_read_only,
             stencil_load: target.stencil_load,

@@ -4,13 +4,14 @@ ghost use Rattle.wg_types.specs.Refs.{first_of};
 ghost use Rattle.wg_types.specs.Requests.{named, kind_made, map_refs};
 
 use crate::NoMemory;
-use crate::bindings::{GroupEntryOf, LayoutEntry, SamplerKind, each_entry, map_entries};
+use crate::bindings::{GroupEntryOf, LayoutEntry, each_entry, map_entries};
 use crate::groups::Interface;
 use crate::handles::{BufferInfo, QueriesInfo};
 use crate::items::Items;
 use crate::refs::{self, Ask, Find};
 use crate::render::{RenderDesc, TargetInfo};
 use crate::replies::Filter;
+use crate::samplers::SamplerDesc;
 use crate::shared::Shared;
 use crate::textures::{DataLayout, TextureInfo, TextureSpot, ViewAsked};
 use crate::wanted::{Kind, Wanted};
@@ -31,7 +32,7 @@ pub enum RequestOf<R> {
         asked: ViewAsked,
     },
     CreateSampler {
-        kind: SamplerKind,
+        desc: SamplerDesc,
     },
     CreateBindGroupLayout {
         entries: Shared<Items<LayoutEntry>>,
@@ -184,7 +185,7 @@ impl<R> RequestOf<R> {
                 texture: find.find(texture)?,
                 asked: *asked,
             }),
-            RequestOf::CreateSampler { kind } => Ok(RequestOf::CreateSampler { kind: *kind }),
+            RequestOf::CreateSampler { desc } => Ok(RequestOf::CreateSampler { desc: *desc }),
             RequestOf::CreateBindGroupLayout { entries } => Ok(RequestOf::CreateBindGroupLayout {
                 entries: entries.share()?,
             }),

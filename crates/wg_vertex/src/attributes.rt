@@ -1,10 +1,20 @@
 //! Where the attributes of vertex buffers lie.
 ghost use Rattle.std.specs.Prelude.{◌≡◌, ◌<◌, min};
 ghost use Rattle.wg_types.specs.Vertex.{vertex_bytes};
-ghost use Rattle.wg_model.specs.Vertex.{attribute_end, attribute_room, attribute_fits, attributes_fit, last_end};
+ghost use Rattle.wg_model.specs.Vertex.{attributes_of, attribute_end, attribute_room, attribute_fits, attributes_fit, last_end};
 
 use wg_types::limits::Limits;
 use wg_types::vertex::{VertexAttribute, VertexBuffer, VertexFormat};
+
+/// The attributes of a vertex buffer; none where it is left out.
+pub fn attributes_of(buffer: &Option<VertexBuffer>) -> &[VertexAttribute]
+    ensures { result.now ≡ attributes_of buffer.now }
+{
+    match buffer {
+        Some(given) => given.attributes.as_slice(),
+        None => &[],
+    }
+}
 
 /// Where an attribute ends.
 fn end(attribute: &VertexAttribute) -> u64

@@ -1,8 +1,7 @@
 //! The rules in their order.
 ghost use Rattle.std.specs.Prelude.{◌≡◌};
-ghost use Rattle.std.specs.List.{list_all};
 ghost use Rattle.wg_model.specs.Rules.{first_unmet};
-ghost use Rattle.wg_model.specs.Vertex.{stride_fits, attributes_fit, layout_rules};
+ghost use Rattle.wg_model.specs.Vertex.{each_buffer, stride_fits, attributes_fit, layout_rules};
 
 use crate::attributes::attributes_fit;
 use crate::locations::{are_apart, are_below, are_few};
@@ -18,17 +17,22 @@ fn stride_fits(limits: &Limits, buffer: &VertexBuffer) -> bool
     buffer.stride % 4 == 0 && buffer.stride <= limits.max_vertex_buffer_array_stride
 }
 
-fn strides_fit(limits: &Limits, buffers: &[VertexBuffer]) -> bool
-    ensures { result ≡ list_all (stride_fits limits.now) buffers.now }
+/// Whether the strides of all buffers that are not left out fit.
+fn strides_fit(limits: &Limits, buffers: &[Option<VertexBuffer>]) -> bool
+    ensures { result ≡ each_buffer (stride_fits limits.now) buffers.now }
 {
-    buffers.iter().all(|buffer| stride_fits(limits, buffer))
+    buffers.iter().all(|buffer| buffer
+        .as_ref()
+        .is_none_or(|given| stride_fits(limits, given)))
 }
 
-/// Whether the attributes of each buffer fit it.
-fn all_fit(limits: &Limits, buffers: &[VertexBuffer]) -> bool
-    ensures { result ≡ list_all (attributes_fit limits.now) buffers.now }
+/// Whether the attributes of each buffer that is not left out fit it.
+fn all_fit(limits: &Limits, buffers: &[Option<VertexBuffer>]) -> bool
+    ensures { result ≡ each_buffer (attributes_fit limits.now) buffers.now }
 {
-    buffers.iter().all(|buffer| attributes_fit(limits, buffer))
+    buffers.iter().all(|buffer| buffer
+        .as_ref()
+        .is_none_or(|given| attributes_fit(limits, given)))
 }
 
 /// The number of the first unmet rule of the vertex buffers of a render pipeline on a device of these

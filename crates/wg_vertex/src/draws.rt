@@ -42,10 +42,11 @@ fn bytes_at(ranges: &[Option<u64>], slot: usize) -> u64
 
 /// Whether the ranges that are set, in bytes by slot, serve a draw: each vertex buffer of the pipeline
 /// has what lies up to and with the last vertex or instance, of which there are so many counted from the
-/// first of the buffer (WebGPU, "valid to draw"). The vertices of an indexed draw are not told.
+/// first of the buffer (WebGPU, "valid to draw"). One that is left out asks for nothing. The vertices of an
+/// indexed draw are not told.
 #[tactic(auto, unfolding(wg_model::specs::Vertex::draw_fits))]
 pub fn fits(
-    buffers: &[VertexBuffer],
+    buffers: &[Option<VertexBuffer>],
     ranges: &[Option<u64>],
     vertices: Option<u64>,
     instances: u64,
@@ -53,8 +54,9 @@ pub fn fits(
     ensures { result ≡ draw_fits buffers.now ranges.now vertices instances }
 {
     for (slot, buffer) in buffers.iter().enumerate() {
-        let count = count_by(buffer.step, vertices, instances);
-        if !bytes_serve(buffer, bytes_at(ranges, slot), count) {
+        let Some(given) = buffer else { continue };
+        let count = count_by(given.step, vertices, instances);
+        if !bytes_serve(given, bytes_at(ranges, slot), count) {
             return false;
         }
     }

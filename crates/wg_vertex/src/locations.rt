@@ -5,15 +5,16 @@ ghost use Rattle.wg_types.specs.declared.vertex.VertexAttribute.{VertexAttribute
 ghost use Rattle.wg_model.specs.Vertex.{all_attributes, locations_are_distinct};
 ghost use Rattle.wg_vertex.specs.Apart.{apart_from};
 
+use crate::attributes::attributes_of;
 use wg_types::vertex::{VertexAttribute, VertexBuffer};
 
 /// Whether the buffers have no more than `most` attributes.
-pub fn are_few(buffers: &[VertexBuffer], most: u32) -> bool
+pub fn are_few(buffers: &[Option<VertexBuffer>], most: u32) -> bool
     ensures { result ≡ nat_le (length (all_attributes buffers.now)) most }
 {
     let mut left = u64::from(most);
     for buffer in buffers {
-        let found = buffer.attributes.as_slice().len() as u64;
+        let found = attributes_of(buffer).len() as u64;
         if found > left {
             return false;
         }
@@ -30,11 +31,11 @@ fn are_all_below(attributes: &[VertexAttribute], most: u32) -> bool
 
 /// Whether each location in the buffers is below `most`.
 #[tactic(auto, using(crate::proofs::Joined::all_joined))]
-pub fn are_below(buffers: &[VertexBuffer], most: u32) -> bool
+pub fn are_below(buffers: &[Option<VertexBuffer>], most: u32) -> bool
     ensures { result ≡ list_all (λ (attribute : VertexAttribute). nat_lt attribute.location most) (all_attributes buffers.now) }
 {
     for buffer in buffers {
-        if !are_all_below(buffer.attributes.as_slice(), most) {
+        if !are_all_below(attributes_of(buffer), most) {
             return false;
         }
     }
@@ -50,11 +51,11 @@ fn has(attributes: &[VertexAttribute], location: u32) -> bool
 
 /// Whether an attribute of the buffers has a location.
 #[tactic(auto, using(crate::proofs::Joined::any_joined))]
-fn buffers_have(buffers: &[VertexBuffer], location: u32) -> bool
+fn buffers_have(buffers: &[Option<VertexBuffer>], location: u32) -> bool
     ensures { result ≡ list_any (λ (other : VertexAttribute). other.location == location) (all_attributes buffers.now) }
 {
     for buffer in buffers {
-        if has(buffer.attributes.as_slice(), location) {
+        if has(attributes_of(buffer), location) {
             return true;
         }
     }
@@ -62,7 +63,7 @@ fn buffers_have(buffers: &[VertexBuffer], location: u32) -> bool
 }
 
 /// Whether each attribute has a location that neither one behind it nor one of the further buffers has.
-fn are_apart_from(attributes: &[VertexAttribute], further: &[VertexBuffer]) -> bool
+fn are_apart_from(attributes: &[VertexAttribute], further: &[Option<VertexBuffer>]) -> bool
     ensures { result ≡ apart_from attributes.now (all_attributes further.now) }
 {
     for (i, attribute) in attributes.iter().enumerate() {
@@ -77,11 +78,11 @@ fn are_apart_from(attributes: &[VertexAttribute], further: &[VertexBuffer]) -> b
 }
 
 /// Whether no two attributes in the buffers have one location.
-pub fn are_apart(buffers: &[VertexBuffer]) -> bool
+pub fn are_apart(buffers: &[Option<VertexBuffer>]) -> bool
     ensures { result ≡ locations_are_distinct (all_attributes buffers.now) }
 {
     for (i, buffer) in buffers.iter().enumerate() {
-        if !are_apart_from(buffer.attributes.as_slice(), &buffers[i + 1..]) {
+        if !are_apart_from(attributes_of(buffer), &buffers[i + 1..]) {
             return false;
         }
     }

@@ -66,7 +66,11 @@ fn pipeline(device: &mut Device, sampled: u64) -> Result<(u64, u64), Error> {
         samples: 1,
         ..RenderDesc::default()
     };
-    let reply = device.create_render_pipeline(&desc, &iface, &[], &[], &[RGBA8_UNORM])?;
+    let target = Target {
+        format: RGBA8_UNORM,
+        ..Target::default()
+    };
+    let reply = device.create_render_pipeline(&desc, &iface, &[], &[], &[target])?;
     let pipeline = number(told(device, "createRenderPipeline", reply));
     let reply = device.get_bind_group_layout(pipeline, 0)?;
     let layout = number(told(device, "getBindGroupLayout", reply));

@@ -39,6 +39,20 @@ impl Default for ViewDesc {
     }
 }
 
+impl Default for SamplerDesc {
+    fn default() -> Self {
+        Self {
+            lod_min: 0,
+            lod_max: LOD_MAX,
+            mag_filter: 0,
+            min_filter: 0,
+            mipmap_filter: 0,
+            compare: 0,
+            max_anisotropy: 1,
+        }
+    }
+}
+
 impl Default for Binding {
     fn default() -> Self {
         Self {
@@ -76,14 +90,35 @@ impl Default for VertexBuffer {
     }
 }
 
+impl Default for Target {
+    fn default() -> Self {
+        Self {
+            format: 0,
+            write_mask: ColorWrite::ALL,
+            blends: 0,
+            color: Blend::default(),
+            alpha: Blend::default(),
+        }
+    }
+}
+
 impl Default for RenderDesc {
     fn default() -> Self {
         Self {
             layout: NONE,
             samples: 1,
             depth_format: 0,
-            depth_write: 0,
+            depth_write: DEPTH_WRITE_LEFT_OUT,
             stencil_write: 0,
+            depth_compare: 0,
+            biased: 0,
+            stencil_write_mask: ALL_BITS,
+            stencil_front: StencilFace::default(),
+            stencil_back: StencilFace::default(),
+            topology: 0,
+            strip_index_format: 0,
+            cull_mode: 0,
+            alpha_to_coverage: 0,
         }
     }
 }
@@ -121,6 +156,7 @@ impl Default for Depth {
             stencil_load: 0,
             stencil_store: 0,
             stencil_read_only: 0,
+            depth_clear: NONE,
         }
     }
 }

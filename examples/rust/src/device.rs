@@ -249,9 +249,14 @@ impl Device {
         told(|out| unsafe { raw::wethlorn_create_view(&mut self.raw, texture, desc, out) })
     }
 
-    /// Makes a sampler (createSampler).
+    /// Makes a sampler of a kind (createSampler), of which no more is told.
     pub fn create_sampler(&mut self, kind: u32) -> Result<Reply, Error> {
         told(|out| unsafe { raw::wethlorn_create_sampler(&mut self.raw, kind, out) })
+    }
+
+    /// Makes a sampler by what describes it (createSampler), of which its kind is derived.
+    pub fn create_described_sampler(&mut self, desc: &SamplerDesc) -> Result<Reply, Error> {
+        told(|out| unsafe { raw::wethlorn_create_described_sampler(&mut self.raw, desc, out) })
     }
 
     /// Makes a bind group layout (createBindGroupLayout).
@@ -274,14 +279,14 @@ impl Device {
         told(|out| unsafe { raw::wethlorn_create_compute_pipeline(&mut self.raw, layout, iface.as_ptr(), iface.len(), out) })
     }
 
-    /// Makes a render pipeline (createRenderPipeline). `buffers` stand by slot, and each of `attributes` has the index of its buffer: BAD_VALUE where there is none. `targets` are formats, of which each may be 0.
+    /// Makes a render pipeline (createRenderPipeline). `buffers` and `targets` stand by slot, and each of `attributes` has the index of its buffer: BAD_VALUE where there is none, or where that slot is left out.
     pub fn create_render_pipeline(
         &mut self,
         desc: &RenderDesc,
         iface: &[IfaceEntry],
         buffers: &[VertexBuffer],
         attributes: &[VertexAttribute],
-        targets: &[u32],
+        targets: &[Target],
     ) -> Result<Reply, Error> {
         told(|out| unsafe {
             raw::wethlorn_create_render_pipeline(

@@ -123,6 +123,7 @@ extern "C" {
     pub fn wethlorn_create_texture(device: *mut Device, desc: *const TextureDesc, out: *mut Reply) -> u32;
     pub fn wethlorn_create_view(device: *mut Device, texture: u64, desc: *const ViewDesc, out: *mut Reply) -> u32;
     pub fn wethlorn_create_sampler(device: *mut Device, kind: u32, out: *mut Reply) -> u32;
+    pub fn wethlorn_create_described_sampler(device: *mut Device, desc: *const SamplerDesc, out: *mut Reply) -> u32;
     pub fn wethlorn_create_bind_group_layout(
         device: *mut Device,
         entries: *const LayoutEntry,
@@ -158,7 +159,7 @@ extern "C" {
         buffers_count: usize,
         attributes: *const VertexAttribute,
         attributes_count: usize,
-        targets: *const u32,
+        targets: *const Target,
         targets_count: usize,
         out: *mut Reply,
     ) -> u32;

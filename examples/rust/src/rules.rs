@@ -128,16 +128,17 @@ pub fn rule_text(rule: u32) -> Option<&'static str> {
              same `type`, `sample`, `dim`, `multi`, `access` and `format`; `dynamic` and `minSize` are not looked \
              at",
         161 =>
-            "there are at most 8 vertex buffers, and at most `maxVertexAttributes` attributes in all of them \
-             together; each stride is a multiple of 4 and at most `maxVertexBufferArrayStride`",
+            "there are at most 8 vertex buffers, those that are null counted too, and at most \
+             `maxVertexAttributes` attributes in all of them together; each stride is a multiple of 4 and at most \
+             `maxVertexBufferArrayStride`",
         162 =>
             "each location is below `maxVertexAttributes`, and no two attributes have the same location, be they \
              of one buffer or of two; each attribute ends at or before the stride of its buffer, or at or before \
              `maxVertexBufferArrayStride` where the stride is 0; its offset is a multiple of 4, or of 2 where its \
              format has 2 bytes",
         163 =>
-            "there are at most 8 targets, those that are null counted too, and each that is not null is a color \
-             format",
+            "there are at most 8 targets, those that are null counted too, and the format of each that is not \
+             null is a color format",
         164 =>
             "where `depth` is given, its format has depth or stencil; it has depth where `depthWrite` is true, \
              and stencil where `stencilWrite` is true",
@@ -291,11 +292,11 @@ pub fn rule_text(rule: u32) -> Option<&'static str> {
         311 =>
             "on a render pass: no occlusion query is active in it",
         320 =>
-            "on a render pass or a bundle encoder: the targets of the pipeline, its depth format and its samples \
-             are those of that",
+            "on a render pass or a bundle encoder: the formats of the targets of the pipeline, its depth format \
+             and its samples are those of that",
         321 =>
-            "on a render pass or a bundle encoder: `depthWrite` of the pipeline is false where that has \
-             `depthReadOnly` true, and its `stencilWrite` is false where that has `stencilReadOnly` true",
+            "on a render pass or a bundle encoder: the pipeline does not write depth where that has \
+             `depthReadOnly` true, and does not write stencil where that has `stencilReadOnly` true",
         325 =>
             "the index is within the limit (below 4)",
         326 =>
@@ -339,11 +340,11 @@ pub fn rule_text(rule: u32) -> Option<&'static str> {
             "offset and the numbers that are read there fit the buffer: 12 bytes for a dispatch, 16 for a draw, \
              20 for an indexed draw",
         350 =>
-            "for each of the pipeline's vertex buffers a buffer is set at the slot of its place: for the first at \
-             slot 0, for the second at slot 1, and so on",
+            "for each of the pipeline's vertex buffers that is not null a buffer is set at the slot of its place: \
+             for the first at slot 0, for the second at slot 1, and so on, those that are null counted too",
         351 =>
-            "for each of the pipeline's vertex buffers what the draw asks of it is within the range that is set \
-             at its slot; of an indexed draw only those are looked at whose step is instance",
+            "for each of the pipeline's vertex buffers that is not null what the draw asks of it is within the \
+             range that is set at its slot; of an indexed draw only those are looked at whose step is instance",
         352 =>
             "an index buffer is set",
         353 =>
@@ -377,6 +378,43 @@ pub fn rule_text(rule: u32) -> Option<&'static str> {
              its height; 0 will do",
         404 =>
             "on a render pass whose begin gives `maxDrawCount`: its draws are at most that",
+        405 =>
+            "`lodMinClamp` is at most `lodMaxClamp`",
+        406 =>
+            "`maxAnisotropy` is at least 1, and where it is above 1 `magFilter`, `minFilter` and `mipmapFilter` \
+             are linear",
+        407 =>
+            "`stripIndexFormat` is given only where the topology is line-strip or triangle-strip",
+        408 =>
+            "each target that has `blend` has a format that may blend",
+        409 =>
+            "in `color` and in `alpha` of each `blend`: where the operation is min or max, both factors are one",
+        410 =>
+            "each `writeMask` is at most 15",
+        411 =>
+            "where `maxColorAttachmentBytesPerSample` was asked for: a sample of all color targets, or of all \
+             colors of a bundle encoder or of a pass, takes at most that many bytes",
+        412 =>
+            "where `depthCompare` is neither always nor `\"none\"`, the format of `depth` has depth",
+        413 =>
+            "where `stencilFront` or `stencilBack` has a `compare` other than always or an operation other than \
+             keep, the format of `depth` has stencil; the masks are not looked at",
+        414 =>
+            "where the format of `depth` has depth, `depthWrite` is not `\"none\"`",
+        415 =>
+            "where the format of `depth` has depth, and `depthWrite` is true or `depthFailOp` of `stencilFront` \
+             or of `stencilBack` is other than keep, `depthCompare` is not `\"none\"`",
+        416 =>
+            "where `bias` of `depth` is true, the topology is triangle-list or triangle-strip",
+        417 =>
+            "where `alphaToCoverage` is true: there are 4 samples, and there is a first target, which is not null \
+             and whose format may blend and has alpha",
+        418 =>
+            "where `depthLoad` is clear, `depthClearValue`, if it is given, is not `\"none\"` and is at most 65536, \
+             which stands for 1",
+        419 =>
+            "where the topology of the pipeline is line-strip or triangle-strip, it has a `stripIndexFormat`, and \
+             the index buffer that is set is of that format",
         _ => return None,
     })
 }
@@ -413,7 +451,7 @@ pub fn rule_section(rule: u32) -> Option<&'static str> {
             "Vertex State, Limits",
         163 =>
             "Fragment State, Color Target State, Limits",
-        164 =>
+        164 | 412 | 413 | 414 | 415 | 416 =>
             "Depth/Stencil State",
         165 =>
             "Render Pipeline Creation",
@@ -465,7 +503,7 @@ pub fn rule_section(rule: u32) -> Option<&'static str> {
             "Render Pass Encoder Creation",
         302 | 307 | 308 =>
             "Color Attachments",
-        303 | 304 =>
+        303 | 304 | 418 =>
             "Depth/Stencil Attachments",
         310 =>
             "Compute Passes, Render Passes",
@@ -473,7 +511,7 @@ pub fn rule_section(rule: u32) -> Option<&'static str> {
             "Render Passes",
         320 =>
             "Drawing, Render Pass Layout",
-        321 | 330 | 332 | 333 | 335 | 336 | 337 | 350 | 351 | 352 | 353 =>
+        321 | 330 | 332 | 333 | 335 | 336 | 337 | 350 | 351 | 352 | 353 | 419 =>
             "Drawing",
         325 | 326 | 327 | 328 | 341 | 342 =>
             "Bind Groups",
@@ -495,6 +533,19 @@ pub fn rule_section(rule: u32) -> Option<&'static str> {
             "Rasterization state, Limits",
         402 | 403 =>
             "Rasterization state",
+        405 | 406 =>
+            "Sampler Creation",
+        407 =>
+            "Primitive State",
+        408 | 410 =>
+            "Fragment State, Color Target State",
+        409 =>
+            "Fragment State, Blend State",
+        411 =>
+            "Fragment State, Calculating color attachment bytes per sample, Limits, createRenderBundleEncoder, \
+             Render Pass Encoder Creation",
+        417 =>
+            "Render Pipeline Creation, Multisample State",
         _ => return None,
     })
 }

@@ -7,8 +7,12 @@ pub const VERSION: &str = env!("CARGO_PKG_VERSION");
 
 /// What is left out: a number, a size (which is then what remains) or an object.
 pub const NONE: u64 = u64::MAX;
-/// What 1 is in the numbers of a viewport.
+/// What 1 is in fixed numbers, which stand for themselves over it: a float is given by the nearest such number, of two the even one.
 pub const FIXED_ONE: u64 = 65536;
+/// The greatest level of detail of a sampler that leaves it out: 32, as a fixed number.
+pub const LOD_MAX: u64 = 2097152;
+/// As the mask by which a pipeline writes the stencil: all bits.
+pub const ALL_BITS: u32 = u32::MAX;
 /// As the pass on which a command stands: none, the command stands on the encoder or bundle encoder itself.
 pub const ON_ENCODER: u32 = u32::MAX;
 
@@ -56,6 +60,8 @@ pub const MAX_VERTEX_BUFFER_ARRAY_STRIDE: u32 = 20;
 pub const MAX_BUFFER_SIZE: u32 = 21;
 pub const MAX_COLOR_ATTACHMENTS: u32 = 22;
 pub const MAX_COMPUTE_WORKGROUPS_PER_DIMENSION: u32 = 23;
+// A device is held to this one where it was asked for, and else not: then the default is told of it.
+pub const MAX_COLOR_ATTACHMENT_BYTES_PER_SAMPLE: u32 = 24;
 
 // The limits of a device of which nothing is asked, and which each adapter supports. Of a MAX the greater value is the better one, of a MIN the
 // smaller.
@@ -82,6 +88,7 @@ pub const DEFAULT_MAX_VERTEX_BUFFER_ARRAY_STRIDE: u64 = 2048;
 pub const DEFAULT_MAX_BUFFER_SIZE: u64 = 268435456;
 pub const DEFAULT_MAX_COLOR_ATTACHMENTS: u64 = 8;
 pub const DEFAULT_MAX_COMPUTE_WORKGROUPS_PER_DIMENSION: u64 = 65535;
+pub const DEFAULT_MAX_COLOR_ATTACHMENT_BYTES_PER_SAMPLE: u64 = 32;
 
 // The best limits that this library knows, whatever an adapter supports.
 pub const BEST_MAX_TEXTURE_DIMENSION_1D: u64 = 16384;
@@ -107,6 +114,7 @@ pub const BEST_MAX_VERTEX_BUFFER_ARRAY_STRIDE: u64 = 8192;
 pub const BEST_MAX_BUFFER_SIZE: u64 = 4294967296;
 pub const BEST_MAX_COLOR_ATTACHMENTS: u64 = 8;
 pub const BEST_MAX_COMPUTE_WORKGROUPS_PER_DIMENSION: u64 = 65535;
+pub const BEST_MAX_COLOR_ATTACHMENT_BYTES_PER_SAMPLE: u64 = 128;
 
 // Formats of textures. 0 where a format may be left out.
 pub const R8_UNORM: u32 = 1;
@@ -145,6 +153,20 @@ pub const ASPECT_STENCIL_ONLY: u32 = 3;
 pub const FILTERING: u32 = 1;
 pub const NON_FILTERING: u32 = 2;
 pub const COMPARISON: u32 = 3;
+
+// How texels or mip levels that lie beside one another are sampled.
+pub const NEAREST: u32 = 1;
+pub const LINEAR: u32 = 2;
+
+// How a value is compared with another.
+pub const COMPARE_NEVER: u32 = 1;
+pub const COMPARE_LESS: u32 = 2;
+pub const COMPARE_EQUAL: u32 = 3;
+pub const COMPARE_LESS_EQUAL: u32 = 4;
+pub const COMPARE_GREATER: u32 = 5;
+pub const COMPARE_NOT_EQUAL: u32 = 6;
+pub const COMPARE_GREATER_EQUAL: u32 = 7;
+pub const COMPARE_ALWAYS: u32 = 8;
 
 // What a binding holds.
 pub const BIND_UNIFORM: u32 = 1;
@@ -188,6 +210,52 @@ pub const VERTEX_FLOAT32X4: u32 = 12;
 pub const INDEX_UINT16: u32 = 1;
 pub const INDEX_UINT32: u32 = 2;
 
+// What vertices make.
+pub const POINT_LIST: u32 = 1;
+pub const LINE_LIST: u32 = 2;
+pub const LINE_STRIP: u32 = 3;
+pub const TRIANGLE_LIST: u32 = 4;
+pub const TRIANGLE_STRIP: u32 = 5;
+
+// Which faces are not drawn.
+pub const CULL_NONE: u32 = 1;
+pub const CULL_FRONT: u32 = 2;
+pub const CULL_BACK: u32 = 3;
+
+// How two values are blended, and by what each is multiplied before.
+pub const BLEND_ADD: u32 = 1;
+pub const BLEND_SUBTRACT: u32 = 2;
+pub const BLEND_REVERSE_SUBTRACT: u32 = 3;
+pub const BLEND_MIN: u32 = 4;
+pub const BLEND_MAX: u32 = 5;
+
+pub const FACTOR_ZERO: u32 = 1;
+pub const FACTOR_ONE: u32 = 2;
+pub const FACTOR_SRC: u32 = 3;
+pub const FACTOR_ONE_MINUS_SRC: u32 = 4;
+pub const FACTOR_SRC_ALPHA: u32 = 5;
+pub const FACTOR_ONE_MINUS_SRC_ALPHA: u32 = 6;
+pub const FACTOR_DST: u32 = 7;
+pub const FACTOR_ONE_MINUS_DST: u32 = 8;
+pub const FACTOR_DST_ALPHA: u32 = 9;
+pub const FACTOR_ONE_MINUS_DST_ALPHA: u32 = 10;
+pub const FACTOR_SRC_ALPHA_SATURATED: u32 = 11;
+pub const FACTOR_CONSTANT: u32 = 12;
+pub const FACTOR_ONE_MINUS_CONSTANT: u32 = 13;
+
+// What becomes of a value of the stencil.
+pub const STENCIL_KEEP: u32 = 1;
+pub const STENCIL_ZERO: u32 = 2;
+pub const STENCIL_REPLACE: u32 = 3;
+pub const STENCIL_INVERT: u32 = 4;
+pub const STENCIL_INCREMENT_CLAMP: u32 = 5;
+pub const STENCIL_DECREMENT_CLAMP: u32 = 6;
+pub const STENCIL_INCREMENT_WRAP: u32 = 7;
+pub const STENCIL_DECREMENT_WRAP: u32 = 8;
+
+/// As the `depth_write` of a pipeline, besides 0 and 1: whether it writes depth is left out.
+pub const DEPTH_WRITE_LEFT_OUT: u32 = 2;
+
 pub const LOAD: u32 = 1;
 pub const CLEAR: u32 = 2;
 
@@ -211,7 +279,7 @@ macro_rules! flags {
     )*};
 }
 
-flags!(BufferUsage, TextureUsage, Visibility, MapMode);
+flags!(BufferUsage, TextureUsage, Visibility, MapMode, ColorWrite);
 
 /// Usages of a buffer: flags.
 #[repr(transparent)]
@@ -281,6 +349,20 @@ impl MapMode {
     pub const WRITE: Self = Self(2);
 }
 
+/// Which channels of a color target a pipeline writes: flags.
+#[repr(transparent)]
+#[derive(Clone, Copy, Debug, Default, PartialEq, Eq)]
+pub struct ColorWrite(pub u32);
+
+impl ColorWrite {
+    pub const NONE: Self = Self(0);
+    pub const RED: Self = Self(1);
+    pub const GREEN: Self = Self(2);
+    pub const BLUE: Self = Self(4);
+    pub const ALPHA: Self = Self(8);
+    pub const ALL: Self = Self(15);
+}
+
 /// A limit that is asked for, by its name `MAX_..` or `MIN_..`.
 #[repr(C)]
 #[derive(Clone, Copy, Debug, Default)]
@@ -340,6 +422,19 @@ pub struct ViewDesc {
     pub base_layer: u32,
 }
 
+/// A sampler. The filters and `compare` may be 0: nearest, and a sampler that does not compare. The levels of detail are fixed numbers, over [`FIXED_ONE`]. A sampler compares where `compare` is given, else filters where a filter is linear, and else does not.
+#[repr(C)]
+#[derive(Clone, Copy, Debug)]
+pub struct SamplerDesc {
+    pub lod_min: u64,
+    pub lod_max: u64,
+    pub mag_filter: u32,
+    pub min_filter: u32,
+    pub mipmap_filter: u32,
+    pub compare: u32,
+    pub max_anisotropy: u32,
+}
+
 /// What a binding holds. Of the fields only those of its kind are looked at.
 #[repr(C)]
 #[derive(Clone, Copy, Debug)]
@@ -385,7 +480,7 @@ pub struct GroupEntry {
     pub bound: u32,
 }
 
-/// A vertex buffer that a render pipeline reads.
+/// A vertex buffer that a render pipeline reads. step may be 0: the slot is left out, has no attributes, and nothing else is looked at.
 #[repr(C)]
 #[derive(Clone, Copy, Debug)]
 pub struct VertexBuffer {
@@ -403,7 +498,37 @@ pub struct VertexAttribute {
     pub location: u32,
 }
 
-/// layout may be NONE: the pipeline derives its layout itself. depth_format may be 0: there is no depth, and depth_write and stencil_write are not looked at.
+/// How the colors of a target are blended, or its alphas. Each may be 0: add, one, and zero.
+#[repr(C)]
+#[derive(Clone, Copy, Debug, Default)]
+pub struct Blend {
+    pub operation: u32,
+    pub src_factor: u32,
+    pub dst_factor: u32,
+}
+
+/// A color target of a pipeline. format may be 0: the slot is left out, and nothing else is looked at. Where the flag `blends` is 1 the target has a blend, of `color` and `alpha`.
+#[repr(C)]
+#[derive(Clone, Copy, Debug)]
+pub struct Target {
+    pub format: u32,
+    pub write_mask: ColorWrite,
+    pub blends: u32,
+    pub color: Blend,
+    pub alpha: Blend,
+}
+
+/// What a pipeline does with the stencil where it draws a front, or a back. Each may be 0: always, and keep.
+#[repr(C)]
+#[derive(Clone, Copy, Debug, Default)]
+pub struct StencilFace {
+    pub compare: u32,
+    pub fail_op: u32,
+    pub depth_fail_op: u32,
+    pub pass_op: u32,
+}
+
+/// layout may be NONE: the pipeline derives its layout itself. depth_format may be 0: there is no depth and no stencil, and nothing else of them is looked at. depth_write is a flag or [`DEPTH_WRITE_LEFT_OUT`], and depth_compare may be 0, which leaves it out. Where the flag stencil_write is 1 it is told alone that stencil is written, and its mask and its faces are not looked at. topology, strip_index_format and cull_mode may be 0: a list of triangles, no format, and nothing is culled.
 #[repr(C)]
 #[derive(Clone, Copy, Debug)]
 pub struct RenderDesc {
@@ -412,6 +537,15 @@ pub struct RenderDesc {
     pub depth_format: u32,
     pub depth_write: u32,
     pub stencil_write: u32,
+    pub depth_compare: u32,
+    pub biased: u32,
+    pub stencil_write_mask: u32,
+    pub stencil_front: StencilFace,
+    pub stencil_back: StencilFace,
+    pub topology: u32,
+    pub strip_index_format: u32,
+    pub cull_mode: u32,
+    pub alpha_to_coverage: u32,
 }
 
 /// To what a bundle draws, beside its colors. depth_format may be 0.
@@ -435,7 +569,7 @@ pub struct Color {
     pub store: u32,
 }
 
-/// The depth and stencil attachment. view may be NONE: there is none, and nothing else is looked at. The load and store operations may be 0.
+/// The depth and stencil attachment. view may be NONE: there is none, and nothing else is looked at. The load and store operations may be 0. depth_clear, to which depth is cleared, is a fixed number, over [`FIXED_ONE`], and may be NONE, with which depth cannot be cleared.
 #[repr(C)]
 #[derive(Clone, Copy, Debug)]
 pub struct Depth {
@@ -446,6 +580,7 @@ pub struct Depth {
     pub stencil_load: u32,
     pub stencil_store: u32,
     pub stencil_read_only: u32,
+    pub depth_clear: u64,
 }
 
 /// A viewport. It has no floats: each number stands for itself over [`FIXED_ONE`]. It begins `x` to the right of the left edge of what is

@@ -136,6 +136,48 @@ fn what_is_null_names_nothing() {
     assert_eq!(device.finish(&mut encoder).unwrap().fault, None);
 }
 
+/// The rule that a reply tells, if there is one.
+fn rule_of(reply: Result<Reply, Error>) -> Result<Option<u32>, Error> {
+    Ok(reply?.fault.map(|fault| fault.rule))
+}
+
+#[test]
+fn what_samplers_and_pipelines_fix_is_judged() {
+    let mut device = Device::open(1024, &[], &[]).unwrap();
+    let sampler = SamplerDesc::default();
+    let none = SamplerDesc {
+        max_anisotropy: 0,
+        ..sampler
+    };
+    let odd = SamplerDesc { compare: 9, ..sampler };
+    assert_eq!(rule_of(device.create_described_sampler(&sampler)), Ok(None));
+    assert_eq!(rule_of(device.create_described_sampler(&none)), Ok(Some(406)));
+    assert_eq!(device.create_described_sampler(&odd), Err(Error::BadValue));
+    let target = Target {
+        format: RGBA8_UNORM,
+        write_mask: ColorWrite::RED | ColorWrite::ALPHA,
+        ..Target::default()
+    };
+    let desc = RenderDesc::default();
+    let deep = RenderDesc {
+        depth_format: DEPTH32_FLOAT,
+        ..desc
+    };
+    let mut made = |desc, targets: &[Target]| rule_of(device.create_render_pipeline(desc, &[], &[], &[], targets));
+    assert_eq!(made(&desc, &[Target::default(), target]), Ok(None));
+    assert_eq!(
+        made(
+            &desc,
+            &[Target {
+                write_mask: ColorWrite(16),
+                ..target
+            }]
+        ),
+        Ok(Some(410))
+    );
+    assert_eq!(made(&deep, &[target]), Ok(Some(414)));
+}
+
 #[test]
 fn values_out_of_range_are_errors() {
     let mut device = Device::open(1024, &[], &[]).unwrap();

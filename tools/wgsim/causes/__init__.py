@@ -13,6 +13,7 @@ from . import (  # noqa: F401
     copies,
     derived,
     draws,
+    fixed_function,
     groups,
     layouts,
     maps,

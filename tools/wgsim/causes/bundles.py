@@ -46,12 +46,9 @@ def pass_drawn(case: Case) -> Drawn:
 
 def pipeline_drawn(case: Case, pipeline: Played) -> Drawn:
     call = pipeline.call
-    return Drawn(
-        case,
-        pipeline,
-        "pipeline",
-        case.second.bundles.Targets(call["targets"], call["depth"] and call["depth"]["format"], call["samples"], set()),
-    )
+    formats = case.second.fixed_function.target_formats(call)
+    targets = case.second.bundles.Targets(formats, call["depth"] and call["depth"]["format"], call["samples"], set())
+    return Drawn(case, pipeline, "pipeline", targets)
 
 
 def bundle_drawn(case: Case, bundle: Played) -> Drawn:
@@ -126,13 +123,26 @@ def pipeline_spares(case: Case) -> Cause | None:
         return None
     for aspect, write in WRITES.items():
         key = READ_ONLY[aspect]
-        if state[write] and aspect in place.read_only:
+        if write not in state and case.second.fixed_function.writes_aspect(pipeline.call, aspect) and aspect in place.read_only:
+            return spares_stencil(case, pipeline, place)
+        if case.second.fixed_function.writes_aspect(pipeline.call, aspect) and aspect in place.read_only:
             return Cause(
                 f"{write} of {case.named(pipeline)} is true, and so is {key} of {place.name}",
                 {"pipeline": pipeline.call["as"], place.word: place.thing.call["as"], write: True, key: True},
                 f"Leave {write} out, or {key}.",
             )
     return None
+
+
+def spares_stencil(case: Case, pipeline: Played, place: Drawn) -> Cause:
+    """A pipeline writes stencil, as its operations say, that is only read."""
+    fixed_function, state = case.second.fixed_function, pipeline.call["depth"]
+    drawn = fixed_function.DRAWN_FACES[pipeline.call["primitive"]["cullMode"]]
+    face, key = next((face, key) for face in drawn for key in case.second.calls.OPERATION_KEYS if state[face][key] != "keep")
+    operation = state[face][key]
+    said = f"{case.named(pipeline)} writes stencil, since {key} of {face} is {operation}, and stencilReadOnly of {place.name} is true"
+    values = {"pipeline": pipeline.call["as"], place.word: place.thing.call["as"], "of": face, key: operation, "stencilReadOnly": True}
+    return Cause(said, values, "Leave stencilReadOnly out, or make the pipeline with the stencilWriteMask 0.")
 
 
 @rule(370)

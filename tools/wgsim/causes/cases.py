@@ -221,7 +221,7 @@ class Play:
     def blamed_in_pass(self, finish: Played, begin: Played, inside: list[Played], commands: list[Played]) -> Case | None:
         """The same of the commands of a pass, beside its begin."""
         passes, first_unmet = second.passes, second.rules.first_unmet
-        if first_unmet(begin.do, passes.begin_rules(begin)) is not None:
+        if first_unmet(begin.do, passes.begin_rules(begin, self.turns.history.limits)) is not None:
             return Case(self, finish, begin, [], None, commands)
         return self.blamed_among(finish, begin, inside, commands)
 

@@ -96,7 +96,7 @@ def indirect_range(case: Case) -> Cause | None:
 
 def wanted(case: Case) -> tuple[Played, list[tuple[int, dict[str, Any]]]]:
     """The pipeline that is set, and the slots and vertex buffers that it asks for."""
-    return case.pipeline, list(enumerate(case.pipeline.call["buffers"]))
+    return case.pipeline, case.second.draws.read_slots(case.pipeline.call)
 
 
 @rule(350)

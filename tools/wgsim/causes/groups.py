@@ -231,7 +231,7 @@ def stored(case: Case) -> Cause | None:
 @rule(157)
 def samplers(case: Case) -> Cause | None:
     for one in bound(case, "sampler"):
-        kind, asked = one.thing.call["kind"], one.asked["type"]
+        kind, asked = case.second.fixed_function.kind_of_sampler(one.thing.call), one.asked["type"]
         if not case.second.groups.takes_sampler(asked, kind):
             will = "filtering or non-filtering" if asked == "filtering" else asked
             return one.cause(

@@ -86,7 +86,7 @@ def unused(case: Case, layout: Played, used: dict[str, Any]) -> tuple[str, Value
 
 
 def buffers_of(case: Case) -> list[tuple[int, dict[str, Any]]]:
-    return list(enumerate(case.call["buffers"]))
+    return case.second.draws.read_slots(case.call)
 
 
 def attributes_of(case: Case) -> list[Attribute]:
@@ -177,9 +177,14 @@ def placed(case: Case, where: str, place: int, number: int, attribute: dict[str,
     return None
 
 
+def formats_of(case: Case) -> list[str | None]:
+    """The format of each target, or None where it is null."""
+    return case.second.fixed_function.target_formats(case.call)
+
+
 @rule(163)
 def targets(case: Case) -> Cause | None:
-    return wrong_colors(case, "target", case.call["targets"])
+    return wrong_colors(case, "target", formats_of(case))
 
 
 def wrong_colors(case: Case, word: str, formats: list[str | None]) -> Cause | None:
@@ -214,7 +219,7 @@ def depth(case: Case) -> Cause | None:
             "Give it among the targets.",
         )
     for key, aspect in (("depthWrite", "depth"), ("stencilWrite", "stencil")):
-        if state[key] and aspect not in aspects:
+        if state.get(key) is True and aspect not in aspects:
             return Cause(
                 f"{key} is true, and {format} has {case.aspects(format)} alone",
                 {"key": key, "format": format, "missing": aspect},
@@ -225,7 +230,7 @@ def depth(case: Case) -> Cause | None:
 
 @rule(165)
 def something(case: Case) -> Cause | None:
-    return nothing(case, "target", case.call["targets"])
+    return nothing(case, "target", formats_of(case))
 
 
 def nothing(case: Case, word: str, formats: list[str | None]) -> Cause | None:
@@ -243,7 +248,7 @@ def nothing(case: Case, word: str, formats: list[str | None]) -> Cause | None:
 @rule(166)
 def samples(case: Case) -> Cause | None:
     depth = case.call["depth"]
-    return wrong_samples(case, "target", case.call["targets"], depth and depth["format"])
+    return wrong_samples(case, "target", formats_of(case), depth and depth["format"])
 
 
 def wrong_samples(case: Case, word: str, formats: list[str | None], depth: str | None) -> Cause | None:

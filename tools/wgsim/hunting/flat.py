@@ -5,6 +5,7 @@ numbers become those of floats, which is all that a page can give. """
 from __future__ import annotations
 
 import collections
+import copy
 import json
 import random
 import struct
@@ -75,13 +76,18 @@ def without_label(call: dict[str, Any]) -> dict[str, Any]:
 
 def with_floats(call: dict[str, Any]) -> dict[str, Any]:
     """A call of which each fixed number is that of the float that a page makes of it."""
-    if not any(key.is_fixed for key in shape.keys_of(call["do"]).values()):
+    if not any(is_fixed(slot) for slot in shape.slots(call)):
         return call
-    made = dict(call)
+    made = copy.deepcopy(call)
     for slot in shape.slots(made):
-        if slot.key.is_fixed:
+        if is_fixed(slot):
             slot.put(as_float(slot.value))
     return made
+
+
+def is_fixed(slot: shape.Slot) -> bool:
+    """Whether a value is a fixed number."""
+    return slot.key.is_fixed and isinstance(slot.value, int)
 
 
 def as_float(value: int) -> int:

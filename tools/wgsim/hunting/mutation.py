@@ -36,7 +36,7 @@ def slots_of(script: list[dict[str, Any]], wanted: Callable[[shape.Slot], bool])
 
 def change_number(chance: random.Random, script: list[dict[str, Any]]) -> None:
     """A number becomes another one: its neighbour, half or twice of it, an edge, or one that stands elsewhere."""
-    found = slots_of(script, lambda slot: slot.key.sort == "number")
+    found = slots_of(script, lambda slot: slot.key.sort == "number" and slot.value != calls.NONE)
     if not found:
         return
     slot = chance.choice(found)
@@ -52,14 +52,16 @@ def change_word(chance: random.Random, script: list[dict[str, Any]]) -> None:
     found = slots_of(script, lambda slot: slot.key.sort == "word" and slot.key.detail != "binding kind")
     if found:
         slot = chance.choice(found)
-        slot.put(chance.choice(calls.WORDS[slot.key.detail]))
+        slot.put(chance.choice([*calls.WORDS[slot.key.detail], *([calls.NONE] if slot.key.may_be_none else [])]))
 
 
 def change_flag(chance: random.Random, script: list[dict[str, Any]]) -> None:
+    """A flag becomes the other one, or, where that may stand, the word that says that it is left out; that word becomes a flag."""
     found = slots_of(script, lambda slot: slot.key.sort == "boolean")
     if found:
         slot = chance.choice(found)
-        slot.put(not slot.value)
+        others: list[Any] = [slot.value is not True, *([calls.NONE] if slot.key.may_be_none and slot.value != calls.NONE else [])]
+        slot.put(chance.choice(others))
 
 
 def change_name(chance: random.Random, script: list[dict[str, Any]]) -> None:

@@ -115,18 +115,19 @@ def uses(iface: list[dict[str, Any]], stage: str | None, is_auto: bool) -> Itera
             yield f"  _ = {'&' if entry['kind'] in SPACES else ''}{name};"
 
 
-def inputs(buffers: list[dict[str, Any]]) -> str:
+def inputs(buffers: list[dict[str, Any] | None]) -> str:
     """The inputs of a vertex shader, each location once."""
-    found = {attribute["location"]: attribute["format"] for buffer in buffers for attribute in buffer["attributes"]}
+    read = [buffer for buffer in buffers if buffer is not None]
+    found = {attribute["location"]: attribute["format"] for buffer in read for attribute in buffer["attributes"]}
     return ", ".join(f"@location({at}) a{at}: {ATTRIBUTES[word]}" for at, word in found.items() if at < MOST_LOCATIONS)
 
 
-def outputs(targets: list[str | None]) -> list[str]:
+def outputs(targets: list[dict[str, Any] | None]) -> list[str]:
     """The outputs of a fragment shader, with their types."""
     return [
-        f"@location({at}) c{at}: {'vec4u' if word == 'r32uint' else 'vec4f'}"
-        for at, word in enumerate(targets[:MOST_TARGETS])
-        if word is not None
+        f"@location({at}) c{at}: {'vec4u' if target['format'] == 'r32uint' else 'vec4f'}"
+        for at, target in enumerate(targets[:MOST_TARGETS])
+        if target is not None
     ]
 
 

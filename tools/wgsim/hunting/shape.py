@@ -66,8 +66,11 @@ def slots_under(holder: Any, at: Any, key: calls.Key) -> Iterator[Slot]:
     """The values under a key, and the value of the key itself."""
     value = holder[at]
     if key.sort in ("object", "objects"):
-        for item in [value] if key.sort == "object" else value:
-            for name, inner in keys_of_object(key.detail, item).items() if item is not None else ():
+        word = key.word
+        for number, item in enumerate([value] if key.sort == "object" else value):
+            if isinstance(item, str) and word is not None:
+                yield Slot(value, number, word)
+            for name, inner in keys_of_object(key.detail, item).items() if isinstance(item, dict) else ():
                 if name in item:
                     yield from slots_under(item, name, inner)
     elif key.sort in ITEMS or key.sort == "three":

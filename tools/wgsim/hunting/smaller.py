@@ -21,7 +21,7 @@ SHORT_RUN, SHORT = 3, 16
 MOST_LISTS = 24
 ROUND = [0, 1, 2, 3, 4, 8, 16, 64, 256, 1024, 4096, 65536]
 # Keys whose numbers are sums of bits.
-SUMS = {"usage", "visibility", "mode"}
+SUMS = {"usage", "visibility", "mode", "writeMask"}
 LETTERS = {
     "buffer": "b", "texture": "t", "canvas texture": "t", "view": "v", "sampler": "s", "bind group layout": "l", "pipeline layout": "y",
     "bind group": "g", "compute pipeline": "k", "render pipeline": "r", "query set": "q", "encoder": "e", "bundle encoder": "n",
@@ -174,7 +174,9 @@ def put(value: Any, slot: shape.Slot) -> None:
 
 
 def plainer(slot: shape.Slot) -> list[Any]:
-    """Values that are plainer than that of a slot."""
+    """Values that are plainer than that of a slot; the word that says that something is left out has none."""
+    if slot.key.may_be_none and slot.value == calls.NONE:
+        return []
     if slot.key.sort == "number":
         bits = [slot.value & ~(1 << bit) for bit in range(12) if slot.value >> bit & 1] if slot.at in SUMS else []
         below = max((value for value in ROUND if value < slot.value), default=0)
@@ -219,6 +221,8 @@ def size_of(flat: Flat) -> tuple[int, int, int]:
 
 def weight(slot: shape.Slot) -> int:
     """How far a value is from the plainest: by its bits, and by its place among the words of its key."""
+    if slot.key.may_be_none and slot.value == calls.NONE:
+        return 1
     if slot.key.sort == "number":
         return 64 * slot.value.bit_length() + 8 * bin(slot.value).count("1") + min(slot.value, 7)
     if slot.key.sort == "word" and slot.value is not None:

@@ -25,6 +25,8 @@ DEVICE, QUEUE = "device", "queue"
 MAKERS = {"createBuffer", "createTexture", "createQuerySet"}
 PIPELINES = {"createComputePipeline", "createRenderPipeline"}
 SCOPES = {"pushErrorScope", "popErrorScope"}
+# The mask of all bits, and the word for what a page leaves out.
+ALL, NONE = 2**32 - 1, calls.NONE
 
 
 def ref(name: str | None) -> dict[str, str] | None:
@@ -120,10 +122,21 @@ def view(call: dict[str, Any]) -> dict[str, Any]:
 
 
 SAMPLERS: dict[str, dict[str, Any]] = {"filtering": {"magFilter": "linear"}, "non-filtering": {}, "comparison": {"compare": "less"}}
+FILTERS, ADDRESSES = ("magFilter", "minFilter", "mipmapFilter"), ("addressModeU", "addressModeV", "addressModeW")
+
+
+def but(described: dict[str, Any], **usual: Any) -> dict[str, Any]:
+    """Those members of some names that are given and are not what is usual."""
+    return {name: described[name] for name, value in usual.items() if described[name] is not None and described[name] != value}
 
 
 def sampler(call: dict[str, Any]) -> dict[str, Any]:
-    return SAMPLERS[call["kind"]]
+    """What a sampler is: one that its kind tells, or one that is described."""
+    if "kind" in call:
+        return SAMPLERS[call["kind"]]
+    words = but(call, **dict.fromkeys(FILTERS, "nearest"), compare=None, **dict.fromkeys(ADDRESSES, "clamp-to-edge"))
+    levels = {name: as_real(value) for name, value in but(call, lodMinClamp=0, lodMaxClamp=32 * calls.ONE).items()}
+    return {**words, **levels, **but(call, maxAnisotropy=1)}
 
 
 def layout_entry(entry: dict[str, Any]) -> dict[str, Any]:
@@ -155,12 +168,24 @@ def compute_pipeline(call: dict[str, Any]) -> dict[str, Any]:
 def render_pipeline(call: dict[str, Any]) -> dict[str, Any]:
     described: dict[str, Any] = {"layout": layout_of(call), "vertex": {"module": ref("module")}}
     if call["buffers"]:
-        described["vertex"]["buffers"] = [vertex_buffer(each) for each in call["buffers"]]
+        described["vertex"]["buffers"] = [None if each is None else vertex_buffer(each) for each in call["buffers"]]
     if shaders.has_fragment(call):
-        described["fragment"] = {"module": ref("module"), "targets": [word and {"format": word} for word in call["targets"]]}
+        described["fragment"] = {"module": ref("module"), "targets": [None if each is None else target(each) for each in call["targets"]]}
+    primitive = but(call["primitive"], topology="triangle-list", stripIndexFormat=None, frontFace="ccw", cullMode="none")
+    if primitive:
+        described["primitive"] = primitive
     if call["depth"] is not None:
         described["depthStencil"] = depth_stencil(call["depth"])
-    return {**described, **({"multisample": {"count": call["samples"]}} if call["samples"] != 1 else {})}
+    samples = {"count": call["samples"], "mask": call["mask"], "alphaToCoverageEnabled": call["alphaToCoverage"]}
+    samples = but(samples, count=1, mask=ALL, alphaToCoverageEnabled=False)
+    return {**described, **({"multisample": samples} if samples else {})}
+
+
+def target(described: dict[str, Any]) -> dict[str, Any]:
+    """What a pipeline draws to, with how it blends."""
+    blend = described["blend"]
+    parts = {part: but(blend[part], operation="add", srcFactor="one", dstFactor="zero") for part in blend} if blend is not None else None
+    return {"format": described["format"], **({"blend": parts} if parts is not None else {}), **but(described, writeMask=15)}
 
 
 def vertex_buffer(described: dict[str, Any]) -> dict[str, Any]:
@@ -170,9 +195,16 @@ def vertex_buffer(described: dict[str, Any]) -> dict[str, Any]:
 
 
 def depth_stencil(depth: dict[str, Any]) -> dict[str, Any]:
-    """What draws to depth and stencil; depth that is not compared is always drawn."""
-    stencil = {"stencilFront": {"passOp": "replace"}, "stencilBack": {"passOp": "replace"}} if depth["stencilWrite"] else {}
-    return {"format": depth["format"], "depthWriteEnabled": depth["depthWrite"], "depthCompare": "always", **stencil}
+    """What draws to depth and stencil, without what a page leaves out. Where it is only told that stencil is written, both faces write."""
+    of_depth = {"depthWriteEnabled": depth["depthWrite"], "depthCompare": depth["depthCompare"]}
+    of_depth = but(of_depth, depthWriteEnabled=NONE, depthCompare=NONE)
+    if "stencilWrite" in depth:
+        faces = {"stencilFront": {"passOp": "replace"}, "stencilBack": {"passOp": "replace"}} if depth["stencilWrite"] else {}
+    else:
+        usual = {"compare": "always", "failOp": "keep", "depthFailOp": "keep", "passOp": "keep"}
+        faces = {face: but(depth[face], **usual) for face in ("stencilFront", "stencilBack") if depth[face] != usual}
+    masks = but(depth, stencilReadMask=ALL, stencilWriteMask=ALL)
+    return {"format": depth["format"], **of_depth, **faces, **masks, **({"depthBias": 1} if depth["bias"] else {})}
 
 
 def bundle_encoder(call: dict[str, Any]) -> dict[str, Any]:
@@ -189,14 +221,17 @@ def color(attached: dict[str, Any] | None) -> dict[str, Any] | None:
 
 
 def depth_attachment(attached: dict[str, Any]) -> dict[str, Any]:
-    """What depth and stencil are; depth that is cleared is cleared to something."""
+    """What depth and stencil are; depth that is cleared is cleared to something, where it is not said that a page leaves that out."""
     flags = {word: True for word in ("depthReadOnly", "stencilReadOnly") if attached[word]}
-    cleared = {"depthClearValue": 1} if attached["depthLoad"] == "clear" else {}
+    value = attached["depthClearValue"]
+    cleared: dict[str, Any] = {"depthClearValue": 1} if attached["depthLoad"] == "clear" and value is None else {}
+    if value not in (None, NONE):
+        cleared = {"depthClearValue": as_real(value)}
     ops = {
         "depthLoadOp": attached["depthLoad"], "depthStoreOp": attached["depthStore"],
         "stencilLoadOp": attached["stencilLoad"], "stencilStoreOp": attached["stencilStore"],
     }
-    return {"view": ref(attached["view"]), **slim(ops), **cleared, **flags}
+    return {"view": ref(attached["view"]), **slim(ops), **cleared, **but(attached, stencilClearValue=0), **flags}
 
 
 def render_pass(call: dict[str, Any]) -> dict[str, Any]:
@@ -274,10 +309,15 @@ def real(name: str, before: str | None = None) -> Callable[[Any], Any]:
     """A fixed number as the float that it is; one that is said with a flag is below 0 where that is set."""
 
     def described(call: dict[str, Any]) -> float:
-        value = call[name] / calls.ONE if call[name] % calls.ONE else call[name] // calls.ONE
+        value = as_real(call[name])
         return -value if before is not None and call[before] else value
 
     return described
+
+
+def as_real(fixed: int) -> float:
+    """What a fixed number stands for."""
+    return fixed / calls.ONE if fixed % calls.ONE else fixed // calls.ONE
 
 
 def bundles(call: dict[str, Any]) -> list[Any]:

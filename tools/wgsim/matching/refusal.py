@@ -115,7 +115,8 @@ def wrong_limits(refusal: Refusal, text: Text, asked: Value) -> Refusal:
                 "the name of a limit that a script can ask for: docs/script.md has them",
                 near(name, limits.TABLE),
             )
-        found = f"{shown(text.of(value))} for {name}, whose default is {limit.default} and whose best is {limit.best}"
+        default = "which has no default" if limit.default is None else f"whose default is {limit.default}"
+        found = f"{shown(text.of(value))} for {name}, {default} and whose best is {limit.best}"
         if not is_whole(value, 53):
             refusal.by("number")
             return refusal.at(value.start, found, "a whole number from 0 to 9007199254740991, in decimal digits alone")
@@ -165,13 +166,20 @@ def keys_of_call(refusal: Refusal, text: Text, call: Value, top: Value) -> Refus
     word = call.needed("do").what
     keys = calls.keys_of(word)
     if keys is not None:
-        wrong_keys(refusal, call, word, keys, {"do"})
+        wrong_keys(refusal, call, word, keys, {"do"}, calls.CALLS[word].get("apart", {}))
     return refusal
 
 
-def wrong_keys(refusal: Refusal, value: Value, word: str, keys: dict[str, Key], others: Collection[str] = ()) -> Refusal | None:
-    """Whether a call, or an object in it, has a key that it may not have, or lacks one that it needs. Of a call that is rule 7, and of an
-    object rule 8, which have the same parts for it."""
+def wrong_keys(
+    refusal: Refusal,
+    value: Value,
+    word: str,
+    keys: dict[str, Key],
+    others: Collection[str] = (),
+    apart: dict[str, list[str]] | None = None,
+) -> Refusal | None:
+    """Whether a call, or an object in it, has a key that it may not have, be it beside another one, or lacks one that it needs. Of a call
+    that is rule 7, and of an object rule 8, which have the same parts for it."""
     told = [name + (" (may be left out)" if key.may_be_left_out else "") for name, key in keys.items()]
     has = "has the keys " + ", ".join(told) if told else "has the key do alone"
     for key, _ in value.what:
@@ -179,6 +187,12 @@ def wrong_keys(refusal: Refusal, value: Value, word: str, keys: dict[str, Key], 
             refusal.by("unknown key")
             return refusal.at(
                 key.start, f"the key {quoted(key.what)}", f"no such key: {word} {has}", lacking.key(key.what) or near(key.what, keys)
+            )
+        other = calls.beside(apart or {}, key.what, (each.what for each, _ in value.what))
+        if other is not None:
+            refusal.by("unknown key")
+            return refusal.at(
+                key.start, f"the key {quoted(key.what)}", f"no such key beside {quoted(other)}: {word} has the one or the other"
             )
     for name, key in keys.items():
         if value.member(name) is None and not key.may_be_left_out:
@@ -203,14 +217,25 @@ def wrong_values(refusal: Refusal, text: Text, owner: Value, keys: dict[str, Key
                 found = f"a list of {len(value.what)}"
             if key.sort == "label" and wrong.kind == "string":
                 found = label_said(found, wrong.what)
-            is_word = key.sort in ("word", "words") and wrong.kind == "string"
-            hint = lacking.word(wrong.what, key.detail) or near(wrong.what, calls.WORDS[key.detail]) if is_word else None
             refusal.by(why_wrong(wrong, key, wrong is value))
-            return refusal.at(wrong.start, f"{found} under {name}", key.expected(), hint)
+            return refusal.at(wrong.start, f"{found} under {name}", key.expected(), hint_of(wrong, key))
         for item in objects_in(value, key):
             if wrong_object(refusal, text, item, key.detail):
                 return refusal
     return None
+
+
+def word_of(key: Key) -> Key | None:
+    """What a word has to be under a key, in a list or alone, or None where no word may stand."""
+    return key if key.sort in ("word", "words") else key.word
+
+
+def hint_of(wrong: Value, key: Key) -> str | None:
+    """What is told of a wrong word, or None."""
+    worded = word_of(key)
+    if worded is None or wrong.kind != "string":
+        return None
+    return lacking.word(wrong.what, worded.detail) or near(wrong.what, calls.WORDS[worded.detail])
 
 
 def label_said(found: str, label: str) -> str:
@@ -227,7 +252,7 @@ def why_wrong(wrong: Value, key: Key, is_whole_value: bool) -> str:
         return "three" if key.sort == "three" else "items"
     if key.sort in ("number", "numbers", "three") and wrong.kind == "number":
         return "range" if wrong.what.isdigit() or wrong.what[1:].isdigit() else "digits"
-    return "word" if key.sort in ("word", "words") and wrong.kind == "string" else "type"
+    return "word" if word_of(key) is not None and wrong.kind == "string" else "type"
 
 
 def objects_in(value: Value | None, key: Key) -> list[Value]:
@@ -241,8 +266,8 @@ def wrong_object(refusal: Refusal, text: Text, item: Value, sort: str) -> Refusa
     """Whether an object in a call has wrong keys or values. Its form is looked at first, since its keys hang on that."""
     said, by, forms = calls.OBJECTS[sort]["said"], calls.form_key(sort), calls.forms_of(sort)
     if not forms:
-        keys = calls.keys_of_object(sort, item)
-        return wrong_keys(refusal, item, said, keys) or wrong_values(refusal, text, item, keys)
+        keys, apart = calls.keys_of_object(sort, item), calls.OBJECTS[sort].get("apart", {})
+        return wrong_keys(refusal, item, said, keys, (), apart) or wrong_values(refusal, text, item, keys)
     form = calls.form_of(sort, item)
     if by is None and form is None:
         refusal.by("missing key")
@@ -276,6 +301,8 @@ def near_key(item: Value, wanted: Iterable[str], sort: str) -> str | None:
 
 def wrong_in(value: Value, key: Key) -> Value | None:
     """The value, or the item of it, that is not what the key's values have to be, or None."""
+    if key.may_be_none and value.kind == "string" and value.what == calls.NONE:
+        return None
     if key.sort == "number":
         return None if is_whole(value, int(key.detail)) else value
     if key.sort == "three":
@@ -303,8 +330,13 @@ ITEMS = {
     "names": lambda item, key: item.kind == "string",
     "numbers": lambda item, key: is_whole(item, int(key.detail)),
     "words": lambda item, key: item.kind == "string" and item.what in calls.WORDS[key.detail],
-    "objects": lambda item, key: item.kind == "object",
+    "objects": lambda item, key: item.kind == "object" or is_word(item, key.word),
 }
+
+
+def is_word(value: Value, key: Key | None) -> bool:
+    """Whether a value is a word that a key has."""
+    return key is not None and value.kind == "string" and value.what in calls.WORDS[key.detail]
 
 
 def is_whole(value: Value, bits: int) -> bool:

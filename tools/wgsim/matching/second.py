@@ -22,6 +22,7 @@ from model import (  # noqa: F401
     cells,
     copies,
     draws,
+    fixed_function,
     formats,
     groups,
     history,

@@ -5,6 +5,7 @@ from __future__ import annotations
 from typing import TYPE_CHECKING, Collection
 
 from .bindings import BUFFER_KINDS, GREATEST_32, SAMPLERS, most_size, other_value, some_kind, told
+from .fixed_function import sampler_fields
 from .limiting import of as limit
 from .resources import COLOR_FORMATS, STORAGE_FORMATS
 
@@ -137,9 +138,12 @@ def bind_sampler(world: World, asked: Entry, faults: Collection[str]) -> tuple[E
 
 
 def sampler(world: World, kind: str) -> Thing:
+    random = world.random
     call = {"do": "createSampler", "kind": kind}
-    if kind == "filtering" and world.random.random() < 0.5:
+    if kind == "filtering" and random.random() < 0.5:
         del call["kind"]
+    if random.random() < 0.5:
+        call = {"do": "createSampler", **sampler_fields(random, kind)}
     thing = world.make("s", call, True)
     thing.kind = kind
     world.samplers.append(thing)

@@ -6,10 +6,12 @@ from __future__ import annotations
 import copy
 from typing import TYPE_CHECKING, Callable
 
+from . import fixed_function
 from .bundling import ASPECTS, bundle_of, create_call, executes, new_bundle, own_target, parts_of
 from .dispatching import known, new_layout
 from .drawing import sampled_attachment
 from .grouping import usable
+from .limiting import of as limit
 from .pass_faults import GREATEST_32, WORK, first_or_any, places
 from .resources import COLOR_FORMATS, DEPTH_FORMATS
 from .targets import FOUR_COLORS, MOST_COLORS, Target
@@ -68,7 +70,16 @@ def no_four_samples(random: Random, call: Call) -> None:
     call["colors"] = [*call["colors"], random.choice(ONE_COLORS)][-MOST_COLORS:]
 
 
-CREATE_FAULTS = [too_many_colors, depth_as_color, color_as_depth, no_targets, wrong_samples, no_four_samples]
+@of_create
+def too_many_bytes(random: Random, call: Call) -> None:
+    """Rule 411, where the limit is named."""
+    if limit(fixed_function.BYTES_LIMIT):
+        fixed_function.too_many_bytes(random, call["colors"])
+
+
+CREATE_FAULTS = [
+    too_many_colors, depth_as_color, color_as_depth, no_targets, wrong_samples, no_four_samples, too_many_bytes, too_many_bytes,
+]
 
 
 def target_of(world: World, begin: Call) -> Target | None:

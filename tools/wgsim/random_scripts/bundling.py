@@ -11,6 +11,7 @@ from typing import TYPE_CHECKING, Sequence
 from . import states
 from .dispatching import named, new_layout
 from .drawing import draw_call, joins, new_render_pipeline, parts_of_group
+from .fixed_function import fitting
 from .grouping import usable
 from .querying import with_queries
 from .rendering import drawn
@@ -54,7 +55,7 @@ def bare_calls(world: World, encoder: str | None, on: str) -> list[Call]:
         layouts = random.choice([none, [new_layout(world, [])]])
         pipeline = new_render_pipeline(world, layouts, target.formats, target.depth, target.samples, target.read_only)
         calls.append({"do": "setPipeline", "on": on, "pipeline": pipeline.name})
-        if not pipeline.vertex:
+        if not any(pipeline.vertex):
             calls.append(draw_call(world, on, "draw", pipeline, {}))
     while random.random() < world.bundled:
         calls.insert(random.choice([0, len(calls)]), executes(world, on, target, False))
@@ -113,6 +114,7 @@ def any_target(world: World) -> Target:
         random.choice([None, *(FOUR_COLORS if samples == 4 else COLOR_FORMATS)])
         for _ in range(random.choice([0, 1, 1, 1, 2, 3, MOST_COLORS]))
     ]
+    formats = fitting(formats)
     depth = random.choice([None, *DEPTH_FORMATS]) if any(formats) else random.choice(DEPTH_FORMATS)
     read_only = {aspect for aspect in ASPECTS if random.random() < 0.3}
     return Target(create_call(formats, depth, samples, read_only), formats, depth, samples, read_only, {})

@@ -14,6 +14,7 @@ from .deriving import is_derived, naming, render_of
 from .dispatching import (
     INDIRECT, at_times_got, buffers_in, kit_layouts, moved, new_layout, offsets_for, pick, set_call, size_of, view_of, with_groups,
 )
+from .fixed_function import nulls_among, put
 from .grouping import pipeline_layout_of, usable
 from .limiting import of as limit
 from .targets import ASPECTS_OF, signature
@@ -101,19 +102,25 @@ def some_layouts(world: World) -> list[Thing]:
 
 
 def new_render_pipeline(
-    world: World, layouts: list[Thing], formats: Sequence[str | None], depth: str | None, samples: int, read_only: set[str]
+    world: World, layouts: list[Thing], formats: Sequence[str | None], depth: str | None, samples: int, read_only: set[str],
+    primitive: Call | None = None,
 ) -> Thing:
-    """A good pipeline that draws to some formats; nulls at the end of them are not always the same."""
+    """A good pipeline that draws to some formats, of a primitive that is given, or any; nulls at the end of them are not always the
+    same."""
     random = world.random
     derives = random.random() < 0.3 or any(map(is_derived, layouts))
     layout = None if derives else pipeline_layout_of(world, layouts, True)
     targets = list(signature(formats, depth, samples)[0])
     targets += [None] * random.choice([0, 0, 0, len(formats) - len(targets), 8 - len(targets)])
-    buffers, writes = some_vertex_buffers(random), set()
+    buffers, writes = nulls_among(random, some_vertex_buffers(random), 0.15), set()
     call: Call = {"targets": targets, "samples": samples}
     if depth is not None:
         writes = {aspect for aspect in ASPECTS_OF[depth] if aspect not in read_only and random.random() < 0.6}
         call["depth"] = without_usual(random, {"format": depth, "depthWrite": "depth" in writes, "stencilWrite": "stencil" in writes})
+    put(random, call)
+    if primitive is not None:
+        call["primitive"] = primitive
+        call.get("depth", {}).pop("bias", None)
     if layout is None:
         thing = with_groups(
             world, render_of(world, naming(random, [one.entries for one in layouts], True), buffers=told_buffers(random, buffers), **call)
@@ -130,8 +137,13 @@ def new_render_pipeline(
     return thing
 
 
-def told_buffers(random: Random, buffers: list[Call]) -> list[Call]:
-    return [without_usual(random, one) for one in buffers]
+def told_buffers(random: Random, buffers: Sequence[Call | None]) -> list[Call | None]:
+    return [None if one is None else without_usual(random, one) for one in buffers]
+
+
+def read_slots(pipeline: Thing) -> list[tuple[int, Call]]:
+    """The slots that a pipeline reads, each with its vertex buffer."""
+    return [(slot, one) for slot, one in enumerate(pipeline.vertex) if one is not None]
 
 
 def add_render_pipeline(world: World, call: Call, good: bool) -> Thing:
@@ -214,8 +226,8 @@ def index_call(random: Random, on: str, setting: Setting) -> Call:
     return {"do": "setIndexBuffer", "on": on, "buffer": setting[0], "format": setting[3], **range_keys(random, *setting[1:3])}
 
 
-def some_index_range(world: World, target: Target, is_any: bool) -> Setting | None:
-    format = world.random.choice(["uint16", "uint32"])
+def some_index_range(world: World, target: Target, is_any: bool, format: str | None = None) -> Setting | None:
+    format = format or world.random.choice(["uint16", "uint32"])
     found = some_range(world, target, INDEX, INDEX_BYTES[format], world.random.choice([0, 4, 12, 16]), is_any)
     return None if found is None else (*found, format)
 
@@ -223,7 +235,7 @@ def some_index_range(world: World, target: Target, is_any: bool) -> Setting | No
 def most_elements(world: World, pipeline: Thing, now: Now, step: str) -> int | None:
     """How many elements a draw may ask of the vertex buffers of a step, or None where it may ask any."""
     found = []
-    for slot, one in enumerate(pipeline.vertex):
+    for slot, one in read_slots(pipeline):
         if one["step"] == step:
             end = max([end_of(attribute) for attribute in one["attributes"]], default=0)
             room = size_set(world, now[("slot", slot)]) - end

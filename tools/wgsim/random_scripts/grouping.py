@@ -13,6 +13,7 @@ from .bindings import (
 from .bound import bound_entries, faults_for, sampler
 from .commands import clear_buffer, copy_buffer, write_buffer
 from .deriving import any_layout, any_pipeline
+from .fixed_function import sampler_fields, spoil_sampler
 from .limiting import of as limit
 from .world import World
 from .worlds import complete, last_before_loss, maps, scope
@@ -276,7 +277,16 @@ def not_offered(random: Random, layout: Thing, places: list[tuple[int, Entry]], 
 
 
 def any_sampler(world: World) -> None:
-    sampler(world, world.random.choice(SAMPLERS))
+    """A sampler of some kind, or one that leaves a rule unmet."""
+    random, kind = world.random, world.random.choice(SAMPLERS)
+    if not world.has_fault() and random.random() < 0.8:
+        sampler(world, kind)
+        return
+    keys = sampler_fields(random, kind)
+    spoil_sampler(random, keys)
+    thing = world.make("s", {"do": "createSampler", **keys}, False)
+    thing.kind = kind
+    world.samplers.append(thing)
 
 
 def drop(world: World) -> None:

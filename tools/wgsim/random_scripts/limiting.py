@@ -8,7 +8,7 @@ from __future__ import annotations
 from typing import TYPE_CHECKING, Any
 
 from .json_forms import Raw
-from model.limits import ALIGNMENTS, BEST, DEFAULTS, given
+from model.limits import ALIGNMENTS, BEST, DEFAULTS, LEAST, given
 
 if TYPE_CHECKING:
     from random import Random
@@ -21,7 +21,8 @@ now = dict(DEFAULTS)
 RAISED = [name for name in DEFAULTS if BEST[name] != DEFAULTS[name]]
 
 
-def of(name: str) -> int:
+def of(name: str) -> Any:
+    """A limit of the script that is made; None where it has none of that name."""
     return now[name]
 
 
@@ -32,6 +33,7 @@ def ask(random: Random, chance: float) -> dict[str, int] | None:
     if random.random() < chance:
         names = random.choice([RAISED, RAISED, list(DEFAULTS)])
         asked = {name: good(random, name) for name in random.sample(names, random.choice([0, 1, 1, 2, 3, len(names)]))}
+        asked.update({name: good(random, name) for name, default in DEFAULTS.items() if default is None and random.random() < 0.4})
     now.update(given(asked or {}))
     return asked
 
@@ -40,7 +42,7 @@ def good(random: Random, name: str) -> int:
     """A value that may be asked for."""
     if name in ALIGNMENTS:
         return random.choice([256, 512, 2**31, 2**random.randint(8, 31)])
-    default, best = DEFAULTS[name], BEST[name]
+    default, best = LEAST[name], BEST[name]
     return random.choice(
         [
             best,
@@ -81,7 +83,7 @@ def past(random: Random, name: str) -> Any:
 
 NO_NAMES = [
     "x", "", "maxBufferSize ", "MaxBufferSize", "maxbuffersize", "maxTextureDimension1d", "maxTextureDimension",
-    "maxBindGroupsPlusVertexBuffers", "maxColorAttachmentBytesPerSample", "maxInterStageShaderVariables",
+    "maxBindGroupsPlusVertexBuffers", "maxColorAttachmentBytes", "maxInterStageShaderVariables",
     "maxComputeInvocationsPerWorkgroup", "maxComputeWorkgroupSizeX", "maxComputeWorkgroupStorageSize",
     "minStorageBufferOffsetAlignment\0", "budget", "maxQueries", "maxTextureArrayLayer",
 ]

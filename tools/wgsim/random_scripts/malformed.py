@@ -4,7 +4,7 @@ from __future__ import annotations
 
 from typing import TYPE_CHECKING, Any
 
-from . import canvases, grouping, labels, limiting, passing, worlds
+from . import canvases, fixed_function, grouping, labels, limiting, passing, worlds
 from .json_forms import Pairs, Raw, text_of
 
 if TYPE_CHECKING:
@@ -138,7 +138,7 @@ def of_call(random: Random, top: Any, calls: list[Any]) -> Any:
         call = dict(calls[at])
         calls[at] = call
         if random.random() < 0.35:
-            calls[at] = random.choices([automatic, sliced, labeled, based, stated, nulled], [2, 2, 4, 2, 4, 3])[0](random, call)
+            calls[at] = random.choices([automatic, sliced, labeled, based, stated, nulled, fixed], [2, 2, 4, 2, 4, 3, 12])[0](random, call)
             return top
         if random.random() < 0.8 and spoil_object(random, call):
             return top
@@ -196,7 +196,8 @@ def other_item(random: Random, call: Any) -> None:
 
 
 def null_item(random: Random, call: Any) -> None:
-    """A null in a list, which only `targets`, `layouts` and `colors` may have, be it those of a bundle encoder."""
+    """A null in a list, which only `targets`, `layouts`, `colors`, be it those of a bundle encoder, and `buffers` of a pipeline may
+    have."""
     lists = [key for key, value in call.items() if isinstance(value, list)]
     if lists:
         key = random.choice(lists)
@@ -229,7 +230,10 @@ MORE_KEYS = [
     "depthLoad", "depthReadOnly", "stencilStore", "slot", "vertices", "firstIndex", "depthWrite", "depthSlice", "queries", "queries",
     "baseVertex", "first", "count", "index", "occlusionQuerySet", "querySet", "queryIndex", "bundles", "bundle", "stencilReadOnly",
     "colorFormats", "depthStencilFormat", "sampleCount", "canvas", "width", "height", "format", "maxDrawCount", "maxDrawCount", "left",
-    "above", "y", "minDepth", "maxDepth", "reference",
+    "above", "y", "minDepth", "maxDepth", "reference", "magFilter", "lodMinClamp", "compare", "maxAnisotropy", "addressModeW", "blend",
+    "writeMask", "color", "alpha", "operation", "srcFactor", "depthCompare", "stencilFront", "stencilBack", "stencilReadMask",
+    "stencilWriteMask", "stencilWrite", "bias", "primitive", "mask", "alphaToCoverage", "topology", "stripIndexFormat", "cullMode",
+    "passOp", "depthClearValue", "stencilClearValue", "unclippedDepth", "depthBias",
 ]
 WRONG_WORDS = [
     "Filtering", "filtering", "nonfiltering", "storage", "readonly-storage", "write", "read-write", "sampled", "unfilterable", "sint",
@@ -237,11 +241,15 @@ WRONG_WORDS = [
     "outofmemory", "internal", None, "load", "clear",
     "store",
     "discard", "dont-care", "vertex", "instance", "fragment", "compute", "uint16", "uint32", "float32", "float32x5",
-    "unorm8x2",
+    "unorm8x2", "none", "none", "nearest", "linear", "always", "not-equal", "equals", "less-than", "keep", "replace", "increment",
+    "invert", "add", "max", "one", "zero", "src-alpha", "src-alpha-saturated", "src1", "one-minus-constant", "constant-color",
+    "triangle-list", "line-strip", "triangle-fan", "ccw", "front", "back", "both", "repeat", "clamp-to-edge", "clamp", "comparison",
 ]
 WORD_KEYS = [
     "format", "dim", "aspect", "filter", "kind", "type", "sample", "access", "stage", "step", "load", "store", "depthLoad", "depthStore",
-    "stencilLoad", "stencilStore",
+    "stencilLoad", "stencilStore", "magFilter", "minFilter", "mipmapFilter", "compare", "addressModeU", "addressModeV", "addressModeW",
+    "operation", "srcFactor", "dstFactor", "depthCompare", "depthWrite", "failOp", "depthFailOp", "passOp", "topology",
+    "stripIndexFormat", "frontFace", "cullMode", "depthClearValue",
 ]
 
 
@@ -383,6 +391,31 @@ def nulled(random: Random, call: Any) -> dict[str, Any]:
     return {**made, **random.choice(more)}
 
 
+def fixed(random: Random, call: Any) -> dict[str, Any]:
+    """A sampler, a render pipeline or a begin with keys of what is fixed, with one value that is wrong, or may be; a key that it lacks or
+    has not, or that may not stand beside the others."""
+    depth = {"view": "v", "depthLoad": "clear", "depthStore": "store", "depthClearValue": 0, "stencilClearValue": 0}
+    calls: list[dict[str, Any]] = [
+        {"do": "createSampler", **fixed_function.sampler_with_all(random), "as": "m"},
+        fixed_function.pipeline_with_all(random),
+        fixed_function.pipeline_with_all(random),
+        {"do": "beginRenderPass", "on": call.get("on", "e"), "colors": [None], "depth": depth, "as": "m"},
+    ]
+    made = random.choice(calls)
+    if made["do"] == "createSampler":
+        if random.random() < 0.1:
+            del made["as"]
+        if random.random() < 0.4:
+            more: list[dict[str, Any]] = [{"kind": "filtering"}, {"kind": None}, {"Kind": "nearest"}, {"label": "x"}, {"compare": None}]
+            return {**made, **random.choice(more)}
+    elif random.random() < 0.85:
+        spoil_object(random, made)
+        if random.random() < 0.8:
+            return made
+    changed = random.choices(CALL_CHANGES, CALL_WEIGHTS)[0](random, made)
+    return made if changed is None else changed
+
+
 def automatic(random: Random, call: Any) -> dict[str, Any]:
     """A layout that is the word `auto`, which is a name where it is not that of a pipeline, or a getBindGroupLayout, with something else
     wrong or not."""
@@ -459,7 +492,8 @@ NEEDED_KEYS = [
 
 def past_word(random: Random, entry: dict[str, Any]) -> None:
     """A number of 32 bits that is one too great."""
-    numbers = [key for key in ("group", "binding", "visibility", "stride", "location") if key in entry]
+    words = ("group", "binding", "visibility", "stride", "location", "writeMask", "stencilReadMask", "stencilWriteMask")
+    numbers = [key for key in words if key in entry]
     if numbers:
         entry[random.choice(numbers)] = WORD_LIMIT + 1
 

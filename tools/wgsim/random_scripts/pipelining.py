@@ -2,8 +2,9 @@
 
 from __future__ import annotations
 
-from typing import TYPE_CHECKING
+from typing import TYPE_CHECKING, Any
 
+from . import fixed_function
 from .bindings import GREATEST_32, told, used_by
 from .drawing import (
     ATTRIBUTE_BYTES, MOST_BUFFERS, STAGES, add_render_pipeline, some_attribute, some_iface, some_vertex_buffers,
@@ -45,16 +46,30 @@ def render_pipeline(world: World, good: bool) -> None:
     }
     border(random, call["buffers"])
     call["samples"] = random.choice([1, 1, 4])
-    formats = FOUR_COLORS if call["samples"] == 4 else COLOR_FORMATS
-    call["targets"] = [random.choice([None, *formats, *formats]) for _ in range(random.choice([0, 1, 1, 2, 3, MOST_COLORS]))]
+    call["targets"] = some_targets(random, FOUR_COLORS if call["samples"] == 4 else COLOR_FORMATS)
     if random.random() < 0.5 or not any(call["targets"]):
         call["depth"] = some_depth(random)
+    fixed_function.put(random, call)
     if not good and not is_bad or is_bad and random.random() < 0.3:
         for fault in random.sample(FAULTS, random.choice([1, 1, 1, 2])):
             fault(random, call, layout)
+    call["buffers"] = fixed_function.nulls_among(random, call["buffers"], 0.2)
+    if len(call["buffers"]) > MOST_BUFFERS:
+        call["buffers"] = [one if one is None or one["attributes"] else random.choice([None, one]) for one in call["buffers"]]
     if "depth" in call:
         call["depth"] = without_usual(random, call["depth"])
     add_render_pipeline(world, call, good)
+
+
+def some_targets(random: Random, formats: list[str]) -> list[Any]:
+    """Targets that take no more bytes than they may, at times just so many."""
+    found = fixed_function.fitting(
+        [random.choice([None, *formats, *formats]) for _ in range(random.choice([0, 1, 1, 2, 3, MOST_COLORS, MOST_COLORS]))]
+    )
+    one = random.choice(formats)
+    while random.random() < 0.8 and len(found) < MOST_COLORS and fixed_function.fits([*found, one]) and len(found) > 3:
+        found.append(one)
+    return found
 
 
 def some_depth(random: Random) -> Call:
@@ -199,11 +214,12 @@ def wrong_samples(random: Random, call: Call, layout: Thing) -> None:
 def one_sample_format(random: Random, call: Call, layout: Thing) -> None:
     """Four samples of a format that has them not, which may be one of several."""
     call["samples"] = 4
-    call["targets"] = [*[format for format in call["targets"] if format not in ONE_COLORS][:MOST_COLORS - 1], random.choice(ONE_COLORS)]
+    others = [item for item in call["targets"] if fixed_function.format_of(item) not in ONE_COLORS]
+    call["targets"] = [*others[:MOST_COLORS - 1], random.choice(ONE_COLORS)]
 
 
 FAULTS = [
     wrong_interface, wrong_interface, wrong_interface, too_many_buffers, too_many_attributes, wrong_stride, wrong_location, location_twice,
     past_stride, past_stride, wrong_offset, too_many_targets, no_color, wrong_depth, wrong_depth, nothing_drawn_to, wrong_samples,
-    one_sample_format,
+    one_sample_format, *fixed_function.FAULTS, *fixed_function.FAULTS,
 ]

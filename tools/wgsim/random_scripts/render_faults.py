@@ -7,10 +7,12 @@ from __future__ import annotations
 import copy
 from typing import TYPE_CHECKING, Callable
 
+from . import fixed_function
 from .bundle_faults import CREATE_FAULTS, EXECUTE_FAULTS
 from .dispatching import INDIRECT, buffers_in, known, named, size_of
 from .drawing import INDEX, INDIRECT_BYTES, VERTEX, add_render_pipeline, new_render_pipeline
 from .grouping import pipeline_layout_of
+from .limiting import of as limit
 from .pass_faults import (
     GREATEST_32, GREATEST_53, OFFSET_FAULTS, SETTING_FAULTS, WORK, change_call, dead_pass, first_or_any, no_group, no_pipeline, on_encoder,
     other_index, other_layout, other_owner, places, pop_too_many, push_too_many, shuffled, some_call,
@@ -321,6 +323,33 @@ def wrong_loads(world: World, begin: Call) -> None:
 
 
 @change_begin
+def wrong_clear(world: World, begin: Call) -> None:
+    """Rule 418, of a depth that is cleared; at times of one that is not, which may be."""
+    random = world.random
+    if "depth" not in begin:
+        add_depth(world, begin)
+    depth = begin["depth"]
+    if "depthLoad" in depth and random.random() < 0.85:
+        depth["depthLoad"] = "clear"
+    depth["depthClearValue"] = random.choice(["none", fixed_function.ONE + 1, fixed_function.ONE + 1, GREATEST_53])
+
+
+@change_begin
+def many_bytes(world: World, begin: Call) -> None:
+    """Rule 411, where the limit is named: colors are attached until they take too many bytes together, or almost."""
+    random = world.random
+    width, height, samples, _ = size_at(world, attached(begin)[0][0]["view"])
+    formats = [None if color is None else size_at(world, color["view"])[3] for color in begin["colors"]]
+    while limit(fixed_function.BYTES_LIMIT) and len(formats) < MOST_COLORS and fixed_function.fits(formats):
+        format = random.choice(["rgba16float", "rgba8unorm"] if samples == 4 else ["rgba32float", "rgba32float", "rgba16float", "r8unorm"])
+        texture: Call = {"size": [width, height, 1], "usage": 20, "format": format, "dim": "2d", "mips": 1, "samples": samples}
+        begin["colors"].append({"view": new_view(world, texture, {"mips": 1}).name, "load": "clear", "store": "store"})
+        formats.append(format)
+    if random.random() < 0.1 and formats:
+        begin["colors"].pop()
+
+
+@change_begin
 def wrong_size(world: World, begin: Call) -> None:
     """Rule 305: one of several is of another width or height, or of another count of samples."""
     random = world.random
@@ -465,6 +494,24 @@ def other_writes(world: World, call: Call) -> None:
     if thing is not None and thing.layouts is not None and thing.signature[1] is not None:
         layouts = [layout for layout in thing.layouts if not layout.dropped]
         call["pipeline"] = new_render_pipeline(world, layouts, thing.signature[0], *thing.signature[1:], set()).name
+
+
+@change_call("setPipeline")
+def other_strip(world: World, call: Call) -> None:
+    """A pipeline like the one that is set, but of strips, whose format of indices is not said, or may be another."""
+    random, thing = world.random, named(world.render_pipelines, call["pipeline"])
+    if thing is None or thing.layouts is None or thing.derives:
+        return
+    topologies = ["triangle-strip"] if thing.call.get("depth", {}).get("bias") else fixed_function.STRIPS
+    strips: list[Call] = [{}, {"stripIndexFormat": "uint16"}, {"stripIndexFormat": "uint32"}]
+    strip = random.choice(strips)
+    old = {key: value for key, value in thing.call.get("primitive", {}).items() if key != "stripIndexFormat"}
+    keys = {**thing.call, "primitive": {**old, "topology": random.choice(topologies), **strip}}
+    made = world.make("x", keys, thing.good)
+    made.layouts, made.lists, made.derives = thing.layouts, thing.lists, False
+    made.vertex, made.signature, made.writes = thing.vertex, thing.signature, thing.writes
+    world.render_pipelines.append(made)
+    call["pipeline"] = made.name
 
 
 def range_faults(word: str, bit: int, step: int) -> list[Fault]:
@@ -612,7 +659,7 @@ def other_kind(world: World, encoder: str, on: str, calls: list[Call]) -> None:
 
 BEGIN_FAULTS = [
     invalid_view, too_many_colors, nothing_attached, wrong_color, wrong_depth, wrong_loads, wrong_size, attached_twice, wrong_resolve,
-    wrong_slice, slice_twice,
+    wrong_slice, slice_twice, wrong_clear, wrong_clear, many_bytes, many_bytes,
 ]
 VERTEX_FAULTS = range_faults("setVertexBuffer", VERTEX, 4)
 INDEX_FAULTS = range_faults("setIndexBuffer", INDEX, 4)
@@ -625,7 +672,7 @@ DRAW_FAULTS = [
     all_gone("setIndexBuffer"),
     all_gone("setIndexBuffer"),
     other_slot, less_set, less_set, other_format, huge_numbers, first_more, first_more, indirect_invalid, indirect_usage, indirect_offset,
-    indirect_past, indirect_past, indirect_instead, other_kind, other_kind,
+    indirect_past, indirect_past, indirect_instead, other_kind, other_kind, other_strip, other_strip, other_strip,
 ]
 PIPELINE_FAULTS = [invalid_render_pipeline] + [other_targets] * 5 + [writing_pipeline] * 3
 ORDER_FAULTS = [pop_too_many, push_too_many, dead_pass, dead_pass, dead_pass, dead_pass, on_encoder, on_encoder, shuffled]
@@ -645,6 +692,7 @@ FAULTS = (
     + ORDER_FAULTS * 2
     + QUERY_FAULTS
     + [other_owner] * 6
+    + [other_strip] * 6
     + STATE_FAULTS * 2
     + NULL_FAULTS * 2
 )
@@ -698,6 +746,7 @@ BUNDLE_FAULTS = (
     + DRAW_FAULTS * 2
     + [invalid_render_pipeline, invalid_render_pipeline]
     + [other_targets] * 8
+    + [other_strip] * 4
     + [writing_in_bundle] * 5
     + [pop_too_many, push_too_many] * 3
     + [shuffled] * 3

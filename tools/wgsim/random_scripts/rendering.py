@@ -7,9 +7,11 @@ from typing import TYPE_CHECKING, Sequence
 from .bindings import is_written
 from .dispatching import bound_by, set_call
 from .drawing import (
-    INDIRECT_BYTES, VERTEX, counts_for, draw_call, end_of, index_call, indirect_call, joins, parts_of_group, size_set, some_index_range,
-    some_range, some_render_pipeline, stray_settings, vertex_call,
+    INDIRECT_BYTES, VERTEX, counts_for, draw_call, end_of, index_call, indirect_call, joins, parts_of_group, read_slots, size_set,
+    some_index_range, some_range, some_render_pipeline, stray_settings, vertex_call,
 )
+
+from .fixed_function import NOT_SAID, strip_of
 
 if TYPE_CHECKING:
     from random import Random
@@ -35,6 +37,11 @@ class Draw:
         self.is_any = wanted == "scope"
         self.word = random.choice(PAST[self.past]) if self.past is not None else random.choices(DRAWS, [4, 4, 2, 2])[0]
 
+    def suit(self, pipeline: Thing) -> None:
+        """A strip whose format of indices is not said is drawn without indices."""
+        if strip_of(pipeline.call) == NOT_SAID:
+            self.word = self.word.replace("Indexed", "")
+
 
 def drawn(world: World, on: str, target: Target, wanted: str | None, counts: Sequence[int], between: Between | None = None) -> list[Call]:
     """The settings and draws on what is drawn to, with one of so many settings with draws. Between these stand more calls, which unset all,
@@ -54,10 +61,11 @@ def drawn(world: World, on: str, target: Target, wanted: str | None, counts: Seq
         pipeline, groups = ready(world, target, draw)
         if pipeline is None or groups is None:
             continue
+        draw.suit(pipeline)
         added = settings(world, on, target, pipeline, groups, now, draw)
         if added is not None:
             free = [index for index in range(4) if index not in groups]
-            calls += stray_settings(world, on, target, draw.is_any, list(range(len(pipeline.vertex), 8)), free, now) + added
+            calls += stray_settings(world, on, target, draw.is_any, free_slots(pipeline), free, now) + added
             calls += [one_draw(world, on, target, pipeline, now, draw) for _ in range(random.choice([1, 1, 1, 2]))]
     calls += stray_settings(world, on, target, wanted == "scope", list(range(8)), list(range(4)), now)
     return calls + ([] if between is None else between(wanted == "scope"))
@@ -74,13 +82,20 @@ def ready(world: World, target: Target, draw: Draw) -> tuple[Thing, Groups] | tu
     return None, None
 
 
+def free_slots(pipeline: Thing) -> list[int]:
+    """The slots that a pipeline does not read."""
+    return [slot for slot in range(8) if slot not in dict(read_slots(pipeline))]
+
+
 def will_do(pipeline: Thing, draw: Draw) -> bool:
     """A draw can ask too much of a vertex buffer that steps, and what overlaps is two bindings, of which one is written."""
     step = {"vertices": "vertex", "instances": "instance"}.get(draw.past) if draw.past is not None else None
     entries = [entry for layout in pipeline.own_layouts() for entry in layout.entries if entry["kind"] != "sampler"]
     if draw.overlaps and not (len(entries) > 1 and any(is_written(entry) for entry in entries)):
         return False
-    return step is None or any(one["step"] == step and one["stride"] > 0 for one in pipeline.vertex)
+    if draw.past == "indices" and strip_of(pipeline.call) == NOT_SAID:
+        return False
+    return step is None or any(one["step"] == step and one["stride"] > 0 for _, one in read_slots(pipeline))
 
 
 def groups_of(world: World, target: Target, pipeline: Thing, draw: Draw) -> Groups | None:
@@ -101,7 +116,7 @@ def settings(world: World, on: str, target: Target, pipeline: Thing, groups: Gro
     found: list[tuple[object, object, Call]] = [("pipeline", pipeline.name, {"do": "setPipeline", "on": on, "pipeline": pipeline.name})]
     for index, (group, offsets) in groups.items():
         found.append((("group", index), (group.name, offsets), set_call(random, on, index, group, offsets)))
-    for slot, one in enumerate(pipeline.vertex):
+    for slot, one in read_slots(pipeline):
         end = max([end_of(attribute) for attribute in one["attributes"]], default=0)
         setting = now.get(("slot", slot))
         if setting is None or size_set(world, setting) < end or random.random() < 0.3:
@@ -110,8 +125,10 @@ def settings(world: World, on: str, target: Target, pipeline: Thing, groups: Gro
                 return None
         found.append((("slot", slot), setting, vertex_call(random, on, slot, setting)))
     setting = now.get("index")
-    if setting is None and draw.word in INDEXED or random.random() < 0.15:
-        setting = some_index_range(world, target, draw.is_any)
+    strip = strip_of(pipeline.call) if draw.word in INDEXED else None
+    is_wanted = draw.word in INDEXED and (setting is None or strip not in (None, setting[3]))
+    if is_wanted or random.random() < 0.15:
+        setting = some_index_range(world, target, draw.is_any, strip)
         if setting is None and draw.word in INDEXED:
             return None
     if setting is not None:

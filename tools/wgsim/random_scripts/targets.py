@@ -5,6 +5,7 @@ from __future__ import annotations
 from typing import TYPE_CHECKING, Any, Sequence
 
 from .dispatching import pooled, view_of
+from .fixed_function import clear_values, fits
 from .regions import extent
 from .resources import COLOR_FORMATS, DEPTH_FORMATS, STORAGE_FORMATS, most_mips
 
@@ -156,6 +157,8 @@ def begin(world: World, encoder: str | None, name: str) -> Target:
     random.shuffle(others)
     chosen += others[:random.choice([0, 0, 1, 2, 7])]
     chosen = chosen[:MOST_COLORS]
+    while not fits([spot[0].call["format"] for spot in chosen]):
+        chosen.pop()
     taken |= set(chosen)
     items: list[tuple[Call | None, str | None]] = [(color(world, spot, size, taken, uses), spot[0].call["format"]) for spot in chosen]
     if items or first in chosen:
@@ -202,6 +205,7 @@ def attach_depth(world: World, target: Target, spot: Spot) -> None:
                 depth[f"{aspect}ReadOnly"] = False
         if depth.get(f"{aspect}ReadOnly"):
             target.read_only.add(aspect)
+    clear_values(random, depth)
     target.begin["depth"] = depth
     target.depth = format
     for part in parts_of(spot):

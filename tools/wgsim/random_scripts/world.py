@@ -30,7 +30,7 @@ class Thing:
     layouts: list[Thing] | None
     lists: list[list[Entry]]
     derives: bool
-    vertex: list[Call]
+    vertex: list[Call | None]
     signature: Signature
     writes: set[str]
     bound: Bound

@@ -20,6 +20,8 @@ ENCODERS = {call["ends"] for call in CALLS.values() if "ends" in call}
 OBJECTS = TABLE["objects"]
 FORMS = TABLE["forms"]
 AUTO = "auto"
+# Says of a key that a page has left out what the standard has there.
+NONE = "none"
 MOST_LABEL = 256
 # A fixed number stands for itself over this one.
 ONE = 65536
@@ -27,7 +29,8 @@ ONE = 65536
 
 class Key:
     """What the value of a key has to be: `sort` with its `detail`, whether the key may be left out, whether it, or an item of its list, may
-    be null, whether the word `auto` may stand in place of a name, and whether a number is a fixed one."""
+    be null, whether the word `auto` may stand in place of a name, or the word `none` in place of another value, and whether a number is a
+    fixed one."""
 
     def __init__(self, text: str) -> None:
         words = text.split()
@@ -37,10 +40,15 @@ class Key:
         words = words[:-2] if self.may_have_null else words
         self.may_be_auto = words[-2:] == ["or", "auto"]
         words = words[:-2] if self.may_be_auto else words
+        self.may_be_none = words[-2:] == ["or", "none"]
+        words = words[:-2] if self.may_be_none else words
         self.is_fixed = words[-1] == "fixed"
         words = words[:-1] if self.is_fixed else words
         self.sort = words[0]
         self.detail = " ".join(words[1:])
+        # Of objects for which a word may stand, what that word has to be: the value of one key of theirs, whose others are left out then.
+        key = OBJECTS[self.detail].get("word") if self.sort in ("object", "objects") else None
+        self.word: Key | None = Key(OBJECTS[self.detail]["keys"][key]) if key is not None else None
 
     def is_name(self, value: Value) -> bool:
         """Whether a value under this key is a name that is used, as far as its form tells: an object of the name `auto` is not reached
@@ -55,13 +63,13 @@ class Key:
         """What is expected, in words."""
         if self.sort == "number":
             stands = f", which stands for itself over {ONE}" if self.is_fixed else ""
-            return f"a whole number from 0 to {2 ** int(self.detail) - 1}, in decimal digits alone{stands}"
+            return f"a whole number from 0 to {2 ** int(self.detail) - 1}, in decimal digits alone{stands}{self.or_none()}"
         if self.sort == "three":
             return f"a list of exactly three whole numbers from 0 to {2 ** 32 - 1}"
         if self.sort == "boolean":
-            return "true or false"
+            return f"true or false{self.or_none()}"
         if self.sort == "word":
-            return "one of " + quoted(WORDS[self.detail])
+            return "one of " + quoted(WORDS[self.detail]) + self.or_none()
         if self.sort == "name":
             return f"the name of {either(self.kinds())}" + (f', or the word "{AUTO}"' if self.may_be_auto else "") + self.or_null()
         if self.sort == "names":
@@ -74,9 +82,10 @@ class Key:
         if self.sort == "object":
             return f"an object, {OBJECTS[self.detail]['said']}"
         if self.sort == "objects":
+            words = f", or the format of one: {quoted(WORDS[self.word.detail])}" if self.word is not None else ""
             return (
                 f"a list of at most 1024 {'items' if self.may_have_null else 'objects'}, each"
-                f" {OBJECTS[self.detail]['said']}{self.or_null()}"
+                f" {OBJECTS[self.detail]['said']}{words}{self.or_null()}"
             )
         if self.sort == "new":
             return "a new name, of 1 to 64 letters, digits and _"
@@ -86,6 +95,9 @@ class Key:
 
     def or_null(self) -> str:
         return ", or null" if self.may_have_null else ""
+
+    def or_none(self) -> str:
+        return f', or the word "{NONE}"' if self.may_be_none else ""
 
 
 def is_long(label: str) -> bool:
@@ -120,6 +132,11 @@ def keys_of(word: str) -> dict[str, Key] | None:
     if word not in CALLS:
         return None
     return {name: Key(text) for name, text in CALLS[word]["keys"].items()}
+
+
+def beside(apart: dict[str, list[str]], name: str, given: Iterable[str]) -> str | None:
+    """A key that is given and beside which one of a name may not stand, by what a call or a sort of objects has `apart`."""
+    return next((other for other in given if other in apart.get(name, ())), None)
 
 
 def form_key(sort: str) -> str | None:

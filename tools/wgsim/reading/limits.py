@@ -11,10 +11,12 @@ ROWS = json.loads((TOP / "docs/limits.json").read_text(encoding="utf-8"))["limit
 
 
 class Limit:
-    """A limit: its default, the best, and whether it is an alignment, of which the smaller is the better."""
+    """A limit: its default, or None where there is none as long as no script names it, the least that is given, the best, and whether it is
+    an alignment, of which the smaller is the better."""
 
     def __init__(self, row: dict[str, Any]) -> None:
         self.name, self.default, self.best = row["name"], row["default"], row["best"]
+        self.least = row.get("least", self.default)
         self.is_alignment = row.get("better") == "smaller"
 
     def wrong(self, value: int) -> str | None:
@@ -26,8 +28,8 @@ class Limit:
 
     def expected(self) -> str:
         if self.is_alignment:
-            return f"a power of two from {self.best} to {2**31}; what is above {self.default} gives {self.default}"
-        return f"at most {self.best}; what is below {self.default} gives {self.default}"
+            return f"a power of two from {self.best} to {2**31}; what is above {self.least} gives {self.least}"
+        return f"at most {self.best}; what is below {self.least} gives {self.least}"
 
     def may_be_more(self) -> str | None:
         """What a script may do that needs more than the limit that it has."""

@@ -43,11 +43,8 @@ const MAKING = {
     const levels = { baseMip: optional(baseMipLevel), mips: optional(mipLevelCount), baseLayer: optional(baseArrayLayer), layers: optional(arrayLayerCount) };
     return { as: 'v', kept: { sort: 'view' }, call: { do: 'createView', texture: name, dim: dimension, aspect, ...levels } };
   },
-  'GPUDevice.createSampler'(recording, on, described = {}) {
-    const isLinear = [described.magFilter, described.minFilter, described.mipmapFilter].includes('linear');
-    leaveBut(recording, 'sampler', described, []);
-    return { as: 's', kept: { sort: 'sampler' }, call: { do: 'createSampler', kind: described.compare ? 'comparison' : isLinear ? 'filtering' : 'non-filtering' } };
-  },
+  'GPUDevice.createSampler': (recording, on, described) => (
+    { as: 's', kept: { sort: 'sampler' }, call: { do: 'createSampler', ...sampler(recording, described || {}) } }),
   'GPUDevice.createBindGroupLayout'(recording, on, described) {
     const entries = [...described.entries].map(entry => layoutEntry(recording, entry));
     return { as: 'l', kept: { entries }, call: { do: 'createBindGroupLayout', entries } };

@@ -5,13 +5,23 @@ const int = value => Math.trunc(Number(value));
 const optional = value => value === undefined ? undefined : int(value);
 // A fixed number stands for itself over 65536. A page's float is said by the nearest one, of two by the even one, and what is past all of them
 // by the greatest.
-const MOST_FIXED = 2 ** 53 - 1;
+const ONE = 65536, MOST_FIXED = 2 ** 53 - 1;
 function fixed(value) {
-  const exact = Math.abs(Math.fround(value)) * 65536, whole = Math.floor(exact), rest = exact - whole;
+  const exact = Math.abs(Math.fround(value)) * ONE, whole = Math.floor(exact), rest = exact - whole;
   return Math.min(rest > 0.5 || rest === 0.5 && whole % 2 ? whole + 1 : whole, MOST_FIXED);
 }
 // One that is out of its range below 0 is so above it.
 const sized = value => Math.fround(value) < 0 ? MOST_FIXED : fixed(value);
+const optionalFixed = value => value === undefined ? undefined : fixed(value);
+// A number of 16 bits that Web IDL clamps: what is no number is 0, and of two as near it is the even one.
+function clamped(value) {
+  const most = Math.min(Math.max(Number(value) || 0, 0), 65535), whole = Math.floor(most), rest = most - whole;
+  return rest > 0.5 || rest === 0.5 && whole % 2 ? whole + 1 : whole;
+}
+// Members under the keys that a script has for them, those that are not given left out.
+function members(object, ...keys) {
+  return slim(Object.fromEntries(keys.map(key => [key, object[key]])));
+}
 const isList = value => Symbol.iterator in Object(value);
 function extent(size) {
   const list = isList(size) ? [...size] : [size.width, size.height, size.depthOrArrayLayers];
@@ -104,6 +114,20 @@ function groupEntry(recording, entry) {
   return { binding, view: view(recording, resource) };
 }
 
+// ---- samplers ----
+const FILTERS = ['magFilter', 'minFilter', 'mipmapFilter'], ADDRESSES = ['addressModeU', 'addressModeV', 'addressModeW'];
+// What describes a sampler. One without members is said by a filter, since a call without any key says another sampler. Both levels of detail
+// are to be 0 or more, and where one is below, that is said by levels that are out of order.
+function sampler(recording, described) {
+  const { lodMinClamp, lodMaxClamp, maxAnisotropy } = described;
+  const isBelow = [lodMinClamp, lodMaxClamp].some(level => level !== undefined && Math.fround(level) < 0);
+  const least = isBelow ? ONE : optionalFixed(lodMinClamp), greatest = isBelow ? 0 : optionalFixed(lodMaxClamp);
+  leaveBut(recording, 'sampler', described, [...FILTERS, 'compare', 'lodMinClamp', 'lodMaxClamp', 'maxAnisotropy', ...ADDRESSES]);
+  const numbers = { lodMinClamp: least, lodMaxClamp: greatest, maxAnisotropy: maxAnisotropy === undefined ? undefined : clamped(maxAnisotropy) };
+  const said = slim({ ...members(described, ...FILTERS, 'compare'), ...numbers, ...members(described, ...ADDRESSES) });
+  return Object.keys(said).length ? said : { magFilter: 'nearest' };
+}
+
 // ---- pipelines ----
 // What the entry point of a stage uses. WGSL does not tell all words of layouts apart; of these it takes the layout's, or those of the layout
 // that is derived.
@@ -154,29 +178,55 @@ function renderPipeline(recording, described) {
   const iface = interfaceOf(recording, 'vertex', vertex, layouts).concat(fragment ? interfaceOf(recording, 'fragment', fragment, layouts) : []);
   const call = { do: 'createRenderPipeline', layout, iface: layouts ? iface : joined(iface) };
   call.buffers = [...vertex.buffers || []].map(vertexBuffer);
-  call.targets = [...fragment && fragment.targets || []].map(target => {
-    leaveBut(recording, 'target', target, ['format']);
-    return target ? format(target.format) : null;
-  });
-  if (depthStencil) {
-    call.depth = { format: format(depthStencil.format), depthWrite: !!depthStencil.depthWriteEnabled, stencilWrite: writesStencil(depthStencil, primitive) };
-    leaveBut(recording, 'depthStencil', depthStencil, ['format', 'depthWriteEnabled']);
-  }
-  leaveBut(recording, 'primitive', primitive, []);
-  leaveBut(recording, 'multisample', multisample, ['count']);
-  if (multisample && multisample.count !== undefined) call.samples = int(multisample.count);
+  call.targets = [...fragment && fragment.targets || []].map(target => target ? targetOf(recording, target) : null);
+  if (depthStencil) call.depth = depthState(recording, depthStencil);
+  Object.assign(call, primitiveOf(recording, primitive), samplesOf(recording, multisample));
   leaveBut(recording, 'renderPipeline', described, ['layout', 'vertex', 'fragment', 'depthStencil', 'primitive', 'multisample']);
   return { as: 'r', kept: { layouts }, modules: [vertex, fragment].filter(Boolean).map(stage => known.get(stage.module)), call };
 }
 function vertexBuffer(buffer) {
-  if (!buffer) throw new Outside('vertex buffer layout', 'a layout of a vertex buffer that is null');
+  if (!buffer) return null;
   const attributes = [...buffer.attributes].map(({ format: word, offset, shaderLocation }) => ({ format: attributeFormat(word), offset: int(offset), location: int(shaderLocation) }));
   return { stride: int(buffer.arrayStride), step: buffer.stepMode || 'vertex', attributes };
 }
-function writesStencil(depthStencil, primitive) {
-  const mask = depthStencil.stencilWriteMask === undefined ? 0xffffffff : depthStencil.stencilWriteMask, culled = primitive && primitive.cullMode || 'none';
-  const writes = face => !!face && ['failOp', 'depthFailOp', 'passOp'].some(key => face[key] !== undefined && face[key] !== 'keep');
-  return mask !== 0 && (culled !== 'front' && writes(depthStencil.stencilFront) || culled !== 'back' && writes(depthStencil.stencilBack));
+// A target of which nothing but the format is given is said by that.
+function targetOf(recording, target) {
+  const word = format(target.format), { blend, writeMask } = target;
+  leaveBut(recording, 'target', target, ['format', 'blend', 'writeMask']);
+  if (!blend && writeMask === undefined) return word;
+  const said = blend ? { color: blended(blend.color), alpha: blended(blend.alpha) } : undefined;
+  return slim({ format: word, blend: said, writeMask: optional(writeMask) });
+}
+function blended(component) {
+  const said = members(component, 'operation', 'srcFactor', 'dstFactor'), factors = [said.srcFactor, said.dstFactor];
+  const missing = factors.find(factor => factor !== undefined && !TABLES.factors.includes(factor));
+  if (missing !== undefined) throw new Outside('blend factor', `the blend factor ${missing}`);
+  return said;
+}
+const OF_DEPTH = ['format', 'depthWriteEnabled', 'depthCompare', 'depthBias', 'depthBiasSlopeScale', 'depthBiasClamp'];
+const OF_STENCIL = ['stencilFront', 'stencilBack', 'stencilReadMask', 'stencilWriteMask'];
+// What of depth is left out, and may be where nothing hangs on it, is said by a word.
+function depthState(recording, state) {
+  const { depthWriteEnabled, depthCompare = 'none', stencilFront, stencilBack, stencilReadMask, stencilWriteMask } = state;
+  const biases = [int(state.depthBias || 0), Math.fround(state.depthBiasSlopeScale || 0), Math.fround(state.depthBiasClamp || 0)];
+  leaveBut(recording, 'depthStencil', state, [...OF_DEPTH, ...OF_STENCIL]);
+  return slim({
+    format: format(state.format), depthWrite: depthWriteEnabled === undefined ? 'none' : !!depthWriteEnabled, depthCompare,
+    stencilFront: faceOf(stencilFront), stencilBack: faceOf(stencilBack),
+    stencilReadMask: optional(stencilReadMask), stencilWriteMask: optional(stencilWriteMask),
+    bias: biases.some(bias => bias !== 0) ? true : undefined,
+  });
+}
+const faceOf = face => face ? members(face, 'compare', 'failOp', 'depthFailOp', 'passOp') : undefined;
+function primitiveOf(recording, primitive) {
+  const keys = ['topology', 'stripIndexFormat', 'frontFace', 'cullMode'], said = members(primitive || {}, ...keys);
+  leaveBut(recording, 'primitive', primitive, keys);
+  return Object.keys(said).length ? { primitive: said } : {};
+}
+function samplesOf(recording, multisample) {
+  const { count, mask, alphaToCoverageEnabled } = multisample || {};
+  leaveBut(recording, 'multisample', multisample, ['count', 'mask', 'alphaToCoverageEnabled']);
+  return slim({ samples: optional(count), mask: optional(mask), alphaToCoverage: alphaToCoverageEnabled ? true : undefined });
 }
 
 // ---- passes ----
@@ -196,16 +246,20 @@ function renderPass(recording, on, described) {
   return call;
 }
 function colorOf(recording, color) {
-  leaveBut(recording, 'colorAttachment', color, ['view', 'depthSlice', 'resolveTarget', 'loadOp', 'storeOp']);
+  // No rule hangs on the color that is cleared to, and no script has it.
+  leaveBut(recording, 'colorAttachment', color, ['view', 'depthSlice', 'resolveTarget', 'loadOp', 'storeOp', 'clearValue']);
   const resolve = color.resolveTarget ? view(recording, color.resolveTarget) : undefined;
   return slim({ view: view(recording, color.view), depthSlice: optional(color.depthSlice), resolve, load: color.loadOp, store: color.storeOp });
 }
 function depthOf(recording, depth) {
   const said = ['view', 'depthLoadOp', 'depthStoreOp', 'depthReadOnly', 'stencilLoadOp', 'stencilStoreOp', 'stencilReadOnly'];
-  leaveBut(recording, 'depthStencilAttachment', depth, said);
+  leaveBut(recording, 'depthStencilAttachment', depth, [...said, 'depthClearValue', 'stencilClearValue']);
+  // What depth is cleared to has to be given where it is cleared.
+  const { depthClearValue } = depth, missing = depth.depthLoadOp === 'clear' ? 'none' : undefined;
   return slim({
     view: view(recording, depth.view), depthLoad: depth.depthLoadOp, depthStore: depth.depthStoreOp, depthReadOnly: depth.depthReadOnly ? true : undefined,
     stencilLoad: depth.stencilLoadOp, stencilStore: depth.stencilStoreOp, stencilReadOnly: depth.stencilReadOnly ? true : undefined,
+    depthClearValue: depthClearValue === undefined ? missing : sized(depthClearValue), stencilClearValue: optional(depth.stencilClearValue),
   });
 }
 

@@ -23,11 +23,12 @@ OUTSIDE = json.loads((FOLDER / "outside.json").read_text(encoding="utf-8"))["wor
 
 
 def tables() -> dict[str, Any]:
-    """What a script can say, for the parts: formats, labels, limits, and what is left out without harm."""
+    """What a script can say, for the parts: formats, blend factors, labels, limits, and what is left out without harm."""
     return {
         "formats": calls.WORDS["format"],
         "attributes": calls.WORDS["attribute format"],
         "canvasFormats": calls.WORDS["canvas format"],
+        "factors": calls.WORDS["blend factor"],
         "mostLabel": calls.MOST_LABEL,
         "limits": {
             limit.name: {"default": limit.default, "best": limit.best, "isAlignment": limit.is_alignment} for limit in limits.TABLE.values()
