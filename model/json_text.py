@@ -13,13 +13,17 @@ import re
 from typing import Any, Match, Pattern
 
 MOST_NESTED = 127
-SPACE = re.compile(r"[ \t\n\r]*")
+BLANKS = " \t\n\r"
+SPACE = re.compile(f"[{BLANKS}]*")
 NUMBER = re.compile(r"-?(?:0|[1-9][0-9]*)(?:\.[0-9]+)?(?:[eE][+-]?[0-9]+)?")
 # What stands in a string as itself: neither its end, nor an escape, nor a control character.
 PLAIN = re.compile(r'[^"\\\x00-\x1f]*')
+# A whole string that has no escape, as most are.
+PLAIN_STRING = re.compile(r'"([^"\\\x00-\x1f]*)"')
 FOUR_DIGITS = re.compile(r"[0-9a-fA-F]{4}")
 ESCAPES = {'"': '"', "\\": "\\", "/": "/", "b": "\b", "f": "\f", "n": "\n", "r": "\r", "t": "\t"}
 WORDS = {"true": True, "false": False, "null": None}
+STARTS = {word[0]: word for word in WORDS}
 
 
 class NoJson(Exception):
@@ -38,7 +42,8 @@ class Text:
         return self.text[self.at:self.at + 1]
 
     def skip_space(self) -> None:
-        self.at = matched(SPACE, self.text, self.at).end()
+        if self.peek() in BLANKS:
+            self.at = matched(SPACE, self.text, self.at).end()
 
     def take(self, wanted: str) -> None:
         """Goes past the text that is wanted here."""
@@ -77,10 +82,9 @@ def read_value(text: Text, nested: int) -> Any:
         return read_object(text, nested + 1)
     if first == '"':
         return read_string(text)
-    for word, value in WORDS.items():
-        if first == word[0]:
-            text.take(word)
-            return value
+    if first in STARTS:
+        text.take(STARTS[first])
+        return WORDS[STARTS[first]]
     return read_number(text)
 
 
@@ -131,6 +135,10 @@ def read_object(text: Text, nested: int) -> Any:
 
 def read_string(text: Text) -> str:
     """A string; characters below the space stand in it only as escapes."""
+    plain = PLAIN_STRING.match(text.text, text.at)
+    if plain:
+        text.at = plain.end()
+        return plain.group(1)
     text.take('"')
     pieces = []
     while True:

@@ -20,7 +20,7 @@ import tempfile
 TOP = pathlib.Path(__file__).resolve().parents[2]
 EXAMPLE = TOP / "examples/two-overlapping-writes.json"
 READ_FAULT, WRITE_FAULT = 4, 5
-TIMEOUT = 60
+TIMEOUT = 600
 
 
 def arguments():

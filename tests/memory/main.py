@@ -19,7 +19,7 @@ import tempfile
 TOP = pathlib.Path(__file__).resolve().parents[2]
 NO_MEMORY = 6
 REFUSED = b"an allocation was refused"
-TIMEOUT = 60
+TIMEOUT = 600
 
 
 def arguments():

@@ -19,7 +19,7 @@ def test_mistakes(folder, check, wgsim, verdicts, pages):
         for number, row in enumerate(rows):
             page, out = folder / f"{name}-{number}.html", folder / f"{name}-{number}"
             page.write_text(sample.replace(row["was"], row["is"]) if row else sample, encoding="utf-8")
-            wgsim("record", "--seconds", 120, "--out", out, page)
+            wgsim("record", "--seconds", 300, "--out", out, page)
             one = next(iter(verdicts(out, 0).values()))
             told = one["recorded"]["told"]
             rules = [int(found[1]) for found in (re.search(r"rule (\d+)", each["core"]) for each in told) if found]

@@ -57,7 +57,7 @@ def test_real(folder, check, wgsim, verdicts, brief, expected, in_pages):
     for path in (PARTS / "pages").iterdir():
         (folder / path.name).write_text(path.read_text(encoding="utf-8").replace("rgba8unorm", "bgra8unorm"), encoding="utf-8")
     for name in PAGES:
-        wgsim("record", "--browser", "firefox", "--seconds", 120, "--out", out, folder / f"{name}.html")
+        wgsim("record", "--browser", "firefox", "--seconds", 300, "--out", out, folder / f"{name}.html")
     for name, one in verdicts(out, 0).items():
         check(brief(one) == expected[name], f"by Firefox: {name}: {brief(one)}, and {expected[name]} is wanted")
     lines = (folder / "resize.html").read_text(encoding="utf-8").splitlines()

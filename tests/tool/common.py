@@ -7,6 +7,8 @@ import subprocess
 TOP = pathlib.Path(__file__).resolve().parent.parent.parent
 EXAMPLES = sorted((TOP / "examples").glob("*.json"))
 CASES = sorted((TOP / "tests/cases").glob("*/*.json"))
+# What a run of the tool takes at most, in seconds: one that has not ended by then hangs, be the machine as busy as it may.
+LONGEST = 600
 findings = []
 
 
@@ -36,7 +38,7 @@ def wgsim(*words, data=b"", top=TOP, **more):
     environment = {**os.environ, **more.pop("environment", {})}
     environment = {name: value for name, value in environment.items() if value is not None}
     how = {"stdin": more.pop("stdin")} if "stdin" in more else {"input": data}
-    ran = subprocess.run([top / "wgsim", *words], capture_output=True, env=environment, cwd=top, timeout=300, **how, **more)
+    ran = subprocess.run([top / "wgsim", *words], capture_output=True, env=environment, cwd=top, timeout=LONGEST, **how, **more)
     check(b"Traceback" not in ran.stderr, f"wgsim {' '.join(words)}: a traceback:\n{ran.stderr.decode('utf-8', 'replace')}")
     return ran
 
@@ -51,9 +53,9 @@ def ends_so(status, *words, **more):
     return ran.stdout.decode("utf-8", "replace"), ran.stderr.decode("utf-8", "replace")
 
 
-def shell(line, timeout=120):
+def shell(line):
     """Runs a line of the shell, in which a pipe fails where a part of it does, and looks that no traceback comes of it."""
-    ran = subprocess.run(["bash", "-c", "set -o pipefail; " + line], capture_output=True, timeout=timeout)
+    ran = subprocess.run(["bash", "-c", "set -o pipefail; " + line], capture_output=True, timeout=LONGEST)
     check(b"Traceback" not in ran.stderr, f"{line}: a traceback:\n{ran.stderr.decode('utf-8', 'replace')}")
     return ran
 

@@ -2,9 +2,8 @@
 
 import json
 
-from test_verified import SECONDS, seconds
-
 from common import TOP, check, ends_so
+from growth import grown
 from wgsim.program import program as programs
 
 FRAME = TOP / "examples/too-few-vertices.json"
@@ -50,12 +49,15 @@ def long_script(commands, writes):
 
 
 def test_long(folder):
-    """A script of 40,000 calls, with 10,000 faults, is explained in time."""
-    script, report = long_script(30_000, 10_000)
-    (folder / "script").write_bytes(script)
-    (folder / "report").write_bytes(report)
-    told, took = seconds(lambda: ends_so(0, "explain", "--report", str(folder / "report"), str(folder / "script"))[0])
-    check(took < SECONDS, f"a script of 40,000 calls: explained in {took:.1f} seconds")
+    """Scripts of 40,000 calls, of which each fourth is a fault, are explained in a time that is in proportion."""
+    def explained(count):
+        script, report = long_script(count * 3 // 4, count // 4)
+        (folder / "script").write_bytes(script)
+        (folder / "report").write_bytes(report)
+        return ends_so(0, "explain", "--report", str(folder / "report"), str(folder / "script"))[0]
+
+    told, wrong = grown(explained, 40_000)
+    check(wrong is None, f"a script of 40,000 calls is explained: {wrong}")
     check(
         "is number 30000 of 30000: " in told and told.count('"b" (1:29) was destroyed at ') == 10_000,
         f"a script of 40,000 calls: explain says\n{told[:2000]}",

@@ -4,7 +4,7 @@ import os
 import subprocess
 import sys
 
-from common import EXAMPLES, TOP, check, wanted, wgsim
+from common import EXAMPLES, LONGEST, TOP, check, wanted, wgsim
 from wgsim.program import program as programs
 
 
@@ -56,7 +56,7 @@ def test_words():
         ["--proved", "explain", "--report", "a", "b"],
     ):
         ran = subprocess.run(
-            [*python, *words], capture_output=True, env={**os.environ, **{k: v for k, v in nothing.items() if v}}, timeout=300
+            [*python, *words], capture_output=True, env={**os.environ, **{k: v for k, v in nothing.items() if v}}, timeout=LONGEST
         )
         said = " ".join(words)
         check(ran.returncode == 2, f"wgsim {said}: status {ran.returncode} and not 2")
@@ -138,13 +138,13 @@ def test_inputs(folder):
             check(ran.returncode == status, f"wgsim {command} on {name}: status {ran.returncode} and not {status}")
         for stdin, stdout, how in ((None, os.devnull, "no standard input"), (os.devnull, "/dev/full", "a full device")):
             redirect = f"exec {TOP}/wgsim {command} >{stdout} {'<&-' if stdin is None else '<' + stdin}"
-            ran = subprocess.run(["bash", "-c", redirect], capture_output=True, timeout=300)
+            ran = subprocess.run(["bash", "-c", redirect], capture_output=True, timeout=LONGEST)
             check(
                 ran.returncode in (3, 4, 5) and b"Traceback" not in ran.stderr,
                 f"wgsim {command} with {how}: status {ran.returncode}, {ran.stderr[-300:]}",
             )
         piped = f"set -o pipefail; {TOP}/wgsim {command} {TOP}/examples/first-frame.json | true"
-        ran = subprocess.run(["bash", "-c", piped], capture_output=True, timeout=300)
+        ran = subprocess.run(["bash", "-c", piped], capture_output=True, timeout=LONGEST)
         check(
             ran.returncode in (0, 5, 141) and not ran.stderr,
             f"wgsim {command} into a closed pipe: status {ran.returncode}, {ran.stderr[-300:]}",

@@ -8,7 +8,7 @@ import sys
 
 from test_checked import Docs
 
-from common import TOP, answered, asked, check, wgsim
+from common import LONGEST, TOP, answered, asked, check, wgsim
 from wgsim.matching import checked as checks
 from wgsim.pages import picture
 from wgsim.program import program as programs
@@ -110,13 +110,13 @@ def test_checking():
     """The log, the Python, the trace and the answers of docs/checking.md belong together."""
     text = (TOP / "docs/checking.md").read_text(encoding="utf-8")
     log, code, trace, answer = re.findall(r"^```(?:text|python)\n(.*?)^```$", text, re.M | re.S)
-    ran = subprocess.run([sys.executable, "-c", code], input=log.encode(), capture_output=True, timeout=60)
+    ran = subprocess.run([sys.executable, "-c", code], input=log.encode(), capture_output=True, timeout=LONGEST)
     check(ran.stdout.decode() == trace, f"docs/checking.md: the log makes another trace: {ran.stdout}, {ran.stderr[-300:]}")
     told = checks.check(trace.encode(), "log.trace", Docs())
     check(told == (answer, 8), f"docs/checking.md: of its trace is said, with status {told[1]}:\n{told[0]}")
     lines = log.splitlines()
     mended = [*lines[:-1], re.search(r"with `(barrier .*?)` in front of the last line", text)[1], lines[-1]]
-    ran = subprocess.run([sys.executable, "-c", code], input="\n".join([*mended, ""]).encode(), capture_output=True, timeout=60)
+    ran = subprocess.run([sys.executable, "-c", code], input="\n".join([*mended, ""]).encode(), capture_output=True, timeout=LONGEST)
     proposed = re.search(r"^    (bar .*)", answer, re.M)[1]
     check(proposed.encode() in ran.stdout, f"docs/checking.md: the mended trace has not the barrier that is proposed, {proposed}")
     check(

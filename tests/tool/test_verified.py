@@ -2,18 +2,15 @@
 
 import json
 import math
-import os
 import re
-import resource
 
 from common import CASES, EXAMPLES, TOP, check, ends_so, shell, wanted, wgsim
+from growth import grown
 from wgsim.matching import orders
 from wgsim.matching import verified as verifying
 
 RACE = TOP / "examples/submit-races-destroy.json"
 FRAME = TOP / "examples/first-frame.json"
-# What processors may take of 40,000 calls.
-SECONDS = 20
 
 
 def callers_of(report):
@@ -131,48 +128,36 @@ def long_script(count):
     )
 
 
-def seconds(run):
-    """What a run gives, and the seconds of processors that it took."""
-    def used():
-        taken = resource.getrusage(resource.RUSAGE_CHILDREN)
-        return taken.ru_utime + taken.ru_stime
+def test_long(folder):
+    """40,000 calls are verified and played in a time that is in proportion: writes by a report that is made line by line, and the generated
+    script by its counts."""
+    script, report = folder / "script", folder / "report"
 
-    before = used()
-    return run(), used() - before
+    def verified(count, status=0, freed=b"free b 0"):
+        calls, right = long_script(count)
+        script.write_bytes(calls)
+        report.write_bytes(right.replace(b"free b 0", freed))
+        return ends_so(status, "verify", str(script), str(report))[0]
 
+    def played(rounds):
+        script.write_bytes(wgsim("script", str(rounds)).stdout)
+        return ends_so(0, "run", "--callers", ",".join(["0"] * (17 + 4 * rounds)), str(script))[0]
 
-def test_long():
-    """40,000 calls are verified and played in time: writes by a report that is made line by line, and the generated script by its
-    counts."""
-    script, report = long_script(40_000)
-    folder = TOP / "tools/out"
-    folder.mkdir(exist_ok=True)
-    paths = [folder / f"long script of {os.getpid()}.json", folder / f"long report of {os.getpid()}"]
-    try:
-        paths[0].write_bytes(script)
-        for name, text, status in (("right", report, 0), ("wrong at its end", report.replace(b"free b 0", b"free b 1"), 1)):
-            paths[1].write_bytes(text)
-            told, took = seconds(lambda status=status: ends_so(status, "verify", *map(str, paths))[0])
-            check(took < SECONDS, f"a report of 40,000 entries that is {name}: verified in {took:.1f} seconds")
-        check(
-            "is to be: free b 0" in told and "its last operation, 39997, is complete" in told, f"a report that is wrong at its end: {told}"
-        )
-        paths[0].write_bytes(wgsim("script", "8000").stdout)
-        told, took = seconds(lambda: ends_so(0, "run", "--callers", ",".join(["0"] * 32_017), str(paths[0]))[0])
-        check(took < SECONDS, f"the generated script of 8000 iterations: played in {took:.1f} seconds")
-        counts = (
-            told.split("\ntrace\n")[0].count("\n"),
-            len(set(re.findall(r" op (\d+)$", told, re.M))),
-            told.count(" fault "),
-            told.count("\nfree "),
-        )
-        check(
-            counts == (17 + 4 * 8000, 2 * 8000, 0, 8),
-            f"the generated script of 8000 iterations: entries, operations, faults and releases are {counts}",
-        )
-    finally:
-        for path in paths:
-            path.unlink()
+    wrong = grown(verified, 40_000)[1]
+    check(wrong is None, f"a report of 40,000 entries that is right is verified: {wrong}")
+    told, wrong = grown(lambda count: verified(count, 1, b"free b 1"), 40_000)
+    check(wrong is None, f"a report of 40,000 entries that is wrong at its end is verified: {wrong}")
+    check("is to be: free b 0" in told and "its last operation, 39997, is complete" in told, f"a report that is wrong at its end: {told}")
+    told, wrong = grown(played, 8000)
+    check(wrong is None, f"the generated script of 8000 iterations is played: {wrong}")
+    counts = (
+        told.split("\ntrace\n")[0].count("\n"), len(set(re.findall(r" op (\d+)$", told, re.M))), told.count(" fault "),
+        told.count("\nfree "),
+    )
+    check(
+        counts == (17 + 4 * 8000, 2 * 8000, 0, 8),
+        f"the generated script of 8000 iterations: entries, operations, faults and releases are {counts}",
+    )
 
 
 def test_callers():

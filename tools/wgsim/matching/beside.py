@@ -2,6 +2,7 @@
 
 from __future__ import annotations
 
+import collections
 from typing import TYPE_CHECKING
 
 from wgsim.reading import calls
@@ -54,19 +55,21 @@ class Beside:
         `turns` gets the calls in the order in which the device took them, recording calls right before the next entry of their lane."""
         phases = sorted({phase for phase, _ in self.script.lanes})
         waiting = {phase: {lane: self.events(phase, lane) for p, lane in self.script.lanes if p == phase} for phase in phases}
+        taken = dict.fromkeys(self.script.lanes, 0)
         for entry in self.report.entries:
             while phases and not any(waiting[phases[0]].values()):
                 self.turns += self.names_at_the_end(phases.pop(0))
             lane = waiting[phases[0]].get(entry.lane) if phases else None
             if not lane:
                 raise DoNotMatch(f"entry {entry.number} is of lane {entry.lane}, where the script has no further call")
-            call = lane.pop(0)
+            call = lane.popleft()
             if entry.word != call.event:
                 raise DoNotMatch(f"entry {entry.number} is of {entry.word}, and the call at {self.script.where(call)} is {call.word}")
             self.call_of[entry.number] = call
             self.entry_of[call] = entry
-            own, at = self.script.lanes[call.place[:2]], call.place[2]
-            self.turns += own[after_entry(own[:at]) : at + 1]
+            own, behind = call.place[:2], call.place[2] + 1
+            self.turns += self.script.lanes[own][taken[own] : behind]
+            taken[own] = behind
             number = entry.object()
             if number is not None and call.gives is not None:
                 self.names[number] = call.gives
@@ -74,9 +77,9 @@ class Beside:
         if left:
             raise DoNotMatch(f"the report has no entry for the call at {self.script.where(left[0])}")
 
-    def events(self, phase: int, lane: int) -> list[Call]:
+    def events(self, phase: int, lane: int) -> collections.deque[Call]:
         """The calls of a lane that make an entry."""
-        return [call for call in self.script.lanes[phase, lane] if call.event is not None]
+        return collections.deque(call for call in self.script.lanes[phase, lane] if call.event is not None)
 
     def names_at_the_end(self, phase: int) -> list[Call]:
         """The calls of canvases behind the last entry of each lane of a phase: they make none, and what they name may be used in later

@@ -242,8 +242,9 @@ class Explained:
         if number in OF_LAYOUTS:
             self.layouts(names)
         if number in (180, 190, 192, 193, 203, 210, 225):
-            self.before(call, self.reached(call), {180: ("finish", "finishBundle"), 190: ("submit",)}.get(number, ("destroy",)))
-            self.say(*[f"    {line}" for line in self.scopes.maps.of_fault(entry, sorted(self.reached(call)))])
+            reached = self.reached(call)
+            self.before(call, reached, {180: ("finish", "finishBundle"), 190: ("submit",)}.get(number, ("destroy",)))
+            self.say(*[f"    {line}" for line in self.scopes.maps.of_fault(entry, sorted(reached))])
 
     def layouts(self, names: Iterable[str]) -> None:
         """Where the layouts among some names were made, those that a pipeline layout has, and the bind groups and pipelines with theirs."""

@@ -53,6 +53,7 @@ class Played:
     """A script for the second reading: its phases with the place of each call, or the line that refuses it."""
 
     def __init__(self, data: bytes, name: str) -> None:
+        rules.count(False)
         self.name = name
         self.setup, self.phases, refusal = answers.read(data)
         self.refusal = refusal[1] if refusal else None

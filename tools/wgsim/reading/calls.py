@@ -2,6 +2,7 @@
 
 from __future__ import annotations
 
+import functools
 import json
 import pathlib
 from typing import TYPE_CHECKING, Iterable
@@ -127,6 +128,7 @@ def either(kinds: list[str]) -> str:
     return " or ".join(KINDS.get(kind, kind) for kind in told)
 
 
+@functools.cache
 def keys_of(word: str) -> dict[str, Key] | None:
     """The keys of a call in the order of the table, or None of a call that is not in it."""
     if word not in CALLS:

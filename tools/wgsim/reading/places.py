@@ -7,12 +7,15 @@ import re
 import unicodedata
 from typing import Any, Match, NoReturn, Pattern
 
-SPACE = re.compile(r"[ \t\n\r]*")
+BLANKS = " \t\n\r"
+SPACE = re.compile(f"[{BLANKS}]*")
 NUMBER = re.compile(r"-?(?:0|[1-9][0-9]*)(?:\.[0-9]+)?(?:[eE][+-]?[0-9]+)?")
 # A piece of a text as a reader sees it, and what was meant for a number.
 PIECE = re.compile(r"[\w.+-]+|.", re.S)
 LIKE_NUMBER = re.compile(r"[0-9.eE+-]+")
 PLAIN = re.compile(r'[^"\\\x00-\x1f]*')
+# A pair as most of an object are: two strings without escapes, or one and a whole number, and no space but behind the colon.
+PAIR = re.compile(r'"([^"\\\x00-\x1f]*)":[ \t\n\r]*(?:"([^"\\\x00-\x1f]*)"|([1-9][0-9]{0,15}|0)(?=[,}]))')
 ESCAPES = {'"': '"', "\\": "\\", "/": "/", "b": "\b", "f": "\f", "n": "\n", "r": "\r", "t": "\t"}
 WORDS = {"true": True, "false": False, "null": None}
 DEEPEST = 127
@@ -30,6 +33,8 @@ class NotJson(Exception):
 
 def escaped(text: str) -> str:
     """A text whose control characters, and those that change how others are shown, are written as `\\x1b` or `\\u202e`."""
+    if text.isprintable():
+        return text
     return "".join(letter if unicodedata.category(letter) not in ("Cc", "Cf", "Co", "Cs") else escape_of(letter) for letter in text)
 
 
@@ -50,6 +55,8 @@ class Value:
 
     The kinds are object (a list of pairs of key and value), list, string, number (its text), true, false and null.
     """
+
+    __slots__ = ("kind", "what", "start", "end")
 
     def __init__(self, kind: str, what: Any, start: int, end: int) -> None:
         self.kind = kind
@@ -95,10 +102,11 @@ class Reader:
         return "the line's end" if piece in "\r\n" else escaped(piece)
 
     def space(self) -> None:
-        self.at = matched(SPACE, self.text, self.at).end()
+        if self.text[self.at : self.at + 1] in BLANKS:
+            self.at = matched(SPACE, self.text, self.at).end()
 
     def next(self) -> str:
-        return self.text[self.at] if self.at < len(self.text) else ""
+        return self.text[self.at : self.at + 1]
 
     def whole(self) -> Value:
         if self.next() == "\ufeff":
@@ -222,17 +230,31 @@ class Reader:
         while self.next() != "}":
             if pairs:
                 self.separator("}", "object", start)
-            if self.next() != '"':
-                self.fail(self.here(), "a key in double quotes")
-            key = self.string()
-            self.space()
-            if self.next() != ":":
-                self.fail(self.here(), "a colon after the key")
-            self.at += 1
-            pairs.append((key, self.value(depth)))
+            pairs.append(self.plain_pair() or self.pair(depth))
             self.space()
         self.at += 1
         return Value("object", pairs, start, self.at)
+
+    def plain_pair(self) -> tuple[Value, Value] | None:
+        """A pair that is as most are, or None of another."""
+        found = PAIR.match(self.text, self.at)
+        if found is None:
+            return None
+        start, colon, self.at = self.at, found.end(1) + 1, found.end()
+        key = Value("string", found[1], start, colon)
+        if found[2] is None:
+            return key, Value("number", found[3], found.start(3), self.at)
+        return key, Value("string", found[2], found.start(2) - 1, self.at)
+
+    def pair(self, depth: int) -> tuple[Value, Value]:
+        if self.next() != '"':
+            self.fail(self.here(), "a key in double quotes")
+        key = self.string()
+        self.space()
+        if self.next() != ":":
+            self.fail(self.here(), "a colon after the key")
+        self.at += 1
+        return key, self.value(depth)
 
 
 class Text:

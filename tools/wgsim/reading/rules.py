@@ -3,6 +3,7 @@
 from __future__ import annotations
 
 import copy
+import functools
 import json
 import textwrap
 from typing import Any
@@ -33,6 +34,7 @@ RULES = [Rule(call, row) for part in TABLE["parts"] if "calls" in part for call 
 ALONE = {row["rule"]: row["asks"] for row in TABLE["alone"]}
 
 
+@functools.cache
 def of(number: int, call: str | None = None) -> list[Rule]:
     """The rules of a number, those of a call alone if it has one; each with its whole sentence."""
     found = [rule for rule in RULES if number in rule.numbers]
