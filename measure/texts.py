@@ -8,8 +8,8 @@ import string
 import subprocess
 from typing import Dict, Iterable, Iterator, List, NamedTuple
 
-# How many members a text has, and what it may take of a processor.
-MEMBERS, MOST_SECONDS = 400_000, 5.0
+# How many members a text has, what it may take of a processor, and how often one that takes more is tried at most.
+MEMBERS, MOST_SECONDS, TRIES = 400_000, 5.0, 3
 # In which object of a text the members stand, and what the program writes: the object has a key that it may not have.
 PLACES = {
     "the script": ('{"budget":1,%s,"phases":[]}', "bad script 2\n"),
@@ -56,6 +56,14 @@ def seconds(program: pathlib.Path, text: Text) -> float:
     return after.ru_utime + after.ru_stime - before.ru_utime - before.ru_stime
 
 
+def least(program: pathlib.Path, text: Text) -> float:
+    """The same, of some tries the least until one is in time: what else the machine does only adds to it."""
+    took = seconds(program, text)
+    for _ in range(TRIES - 1):
+        took = min(took, seconds(program, text)) if took > MOST_SECONDS else took
+    return took
+
+
 def table(program: pathlib.Path) -> None:
     """Prints what each text takes, beside one of half its members."""
     print("| Text | Members | Seconds of a processor | With half the members |\n|---|--:|--:|--:|")
@@ -68,7 +76,7 @@ def check(program: pathlib.Path) -> bool:
     findings = 0
     for text in texts(MEMBERS):
         try:
-            took = seconds(program, text)
+            took = least(program, text)
             found = f"{text.title}: {text.members:,} took {took:.2f} seconds of a processor, and may take {MOST_SECONDS:.0f}"
             findings += took > MOST_SECONDS
         except ValueError as error:

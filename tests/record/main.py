@@ -115,7 +115,8 @@ def test_tables():
 def test_wgsl():
     """What is read off texts of shaders, and the places of what cannot be read."""
     cases = json.loads((PARTS / "wgsl.json").read_text(encoding="utf-8"))
-    ran = subprocess.run([NODE, PARTS / "wgsl.js", whole_text.FOLDER / "wgsl.js", PARTS / "wgsl.json"], capture_output=True, timeout=LONGEST)
+    words = [NODE, PARTS / "wgsl.js", whole_text.FOLDER / "wgsl.js", PARTS / "wgsl.json"]
+    ran = subprocess.run(words, capture_output=True, timeout=LONGEST)
     lines = ran.stdout.decode().splitlines()
     check(len(lines) == len(cases), f"tests/record/wgsl.js: {ran.stderr.decode()[-300:]}")
     for case, line in zip(cases, lines):

@@ -14,8 +14,8 @@ def record(text, head):
 
 
 def limits_of(top):
-    """Each limit in the order of its number: how it is spelled, its field, its default or what is told where it has none, its best value, and
-    its default or None."""
+    """Each limit in the order of its number: how it is spelled, its field, its default or what is told where it has none, its best value,
+    and its default or None."""
     values, names = ((top / path).read_text(encoding="utf-8") for path in (VALUES, NAMES))
     by_default = record(values, "default_limits = record {")
     best = {**by_default, **record(values, "best_limits = record default_limits {")}

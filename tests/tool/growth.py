@@ -1,7 +1,7 @@
 """How the time of a run grows with what it is given.
 
-It is that of processors, and goes by proportion: a machine that is slow or busy takes longer for all of it, and fails no test; work that is a
-square does. """
+It is that of processors, and goes by proportion: a machine that is slow or busy takes longer for all of it, and fails no test; work that is
+a square does. """
 
 import resource
 

@@ -128,7 +128,7 @@ def either(kinds: list[str]) -> str:
     return " or ".join(KINDS.get(kind, kind) for kind in told)
 
 
-@functools.cache
+@functools.lru_cache(maxsize=None)
 def keys_of(word: str) -> dict[str, Key] | None:
     """The keys of a call in the order of the table, or None of a call that is not in it."""
     if word not in CALLS:

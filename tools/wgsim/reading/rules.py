@@ -34,7 +34,7 @@ RULES = [Rule(call, row) for part in TABLE["parts"] if "calls" in part for call 
 ALONE = {row["rule"]: row["asks"] for row in TABLE["alone"]}
 
 
-@functools.cache
+@functools.lru_cache(maxsize=None)
 def of(number: int, call: str | None = None) -> list[Rule]:
     """The rules of a number, those of a call alone if it has one; each with its whole sentence."""
     found = [rule for rule in RULES if number in rule.numbers]
